@@ -1,0 +1,110 @@
+-- What an engine owes: every clause of the demands of 00-mission.md that is about calls and records, as a named part. Statements only,
+-- over any engine; the proofs are elsewhere, for the definition of one call and for the code.
+use Prim.Native.Nat.{ℕ, _<_}
+use mathlib.Core.Path.{_≡_}
+use mathlib.Core.Logic.{_↔_, _≢_}
+use mathlib.Core.List.{List}
+use lib.Dec.{T}
+use Rattle.rules.specs.declared.states.Contactor.{Contactor}
+use Rattle.rules.specs.declared.calls.Event.{Event}
+use Rattle.rules.specs.declared.battery.Record.{Record}
+use Rattle.rules.specs.Quantities.{isType}
+use Rattle.rules.specs.Numbers.{stateNumber, commandNumber, overrideNumber, testNumber, contactorNumber}
+use Rattle.rules.specs.Refusals.{refusal, CallAnswer}
+use Rattle.rules.specs.Ledger.{Ledger, ledger, refusals, accepted, testOf, failedMaskOf, failedCountOf, TrippedOn}
+use Rattle.rules.specs.Stores.{longTerm, shortTerm}
+use Rattle.rules.specs.Accounts.{charged, discharged}
+use Rattle.rules.specs.Contactor.{Closed, ContactorsDiffer}
+use Rattle.rules.specs.Alike.{Alike}
+use Rattle.rules.specs.Soundness.{Sound, keptOf, longEntries, shortEntries}
+
+-- An engine, as what its runs may be: from the fresh record of a type through a list of calls, the numbers that it answers call by call,
+-- the record that it leaves and the contactor that it then has.
+abbrev pub Engine : Type 1
+Engine = (battery : ℕ) → (calls : List Event) → (answers : List ℕ) → (after : Record) → (contactor : Contactor) → Type 0
+
+-- ---- demand 2: "After every list of calls the record shows what document 01 lays down"
+
+pub record AfterList (battery : ℕ) (calls : List Event) (answers : List ℕ) (after : Record) (contactor : Contactor) : Type 0 where
+  pub answered : answers ≡ refusals calls
+  pub batteryType : after .live .battery ≡ battery
+  pub state : stateNumber (after .live .control .state) ≡ stateNumber (ledger calls .state)
+  pub command : commandNumber (after .live .control .command) ≡ commandNumber (ledger calls .command)
+  pub override : overrideNumber (after .live .control .overriding) ≡ overrideNumber (ledger calls .override)
+  pub last : after .live .last ≡ ledger calls .last
+  pub commands : after .live .tally .commands ≡ ledger calls .commands
+  pub test : testNumber (after .live .watch .test) ≡ testOf (ledger calls .measured)
+  pub failedMask : after .live .watch .mask ≡ failedMaskOf (ledger calls .measured)
+  pub failedCount : after .live .watch .failed ≡ failedCountOf (ledger calls .measured)
+  pub tripped : (number : ℕ) → number < 8 → T (keptOf after number .tripped) ↔ TrippedOn battery (ledger calls) number
+  pub charged : after .live .tally .charged .0 ≡ charged (accepted calls)
+  pub discharged : after .live .tally .discharged .0 ≡ discharged (accepted calls)
+  pub longTerm : longEntries (after .stores .faults) ≡ longTerm battery (accepted calls)
+  pub shortTerm : shortEntries (after .stores .recent) ≡ shortTerm battery (accepted calls)
+  pub sound : Sound after
+  pub closed : (contactorNumber contactor ≡ 1) ↔ Closed battery (ledger calls)
+
+abbrev pub AfterEveryList : Engine → Type 0
+AfterEveryList engine =
+    (battery : ℕ) → T (isType battery) → (calls : List Event) (answers : List ℕ) (after : Record) (contactor : Contactor)
+    → engine battery calls answers after contactor → AfterList battery calls answers after contactor
+
+-- ---- demand 3, about two whole lists
+
+pub record TwoRuns
+    (battery : ℕ)
+    (calls₁ calls₂ : List Event)
+    (answers₁ answers₂ : List ℕ)
+    (after₁ after₂ : Record)
+    (contactor₁ contactor₂ : Contactor)
+    : Type 0 where
+  -- "each call gets the same refusal in both runs, or is accepted in both, as document 01's ledger of each run has it"
+  pub sameAnswers : answers₁ ≡ answers₂
+  pub ledgerAnswers₁ : answers₁ ≡ refusals calls₁
+  pub ledgerAnswers₂ : answers₂ ≡ refusals calls₂
+  -- "the same state, command, tripped protections, test result, failed sensors, charge accounts, command count and fault stores"
+  pub state : stateNumber (after₁ .live .control .state) ≡ stateNumber (after₂ .live .control .state)
+  pub command : commandNumber (after₁ .live .control .command) ≡ commandNumber (after₂ .live .control .command)
+  pub tripped : (number : ℕ) → number < 8 → keptOf after₁ number .tripped ≡ keptOf after₂ number .tripped
+  pub test : testNumber (after₁ .live .watch .test) ≡ testNumber (after₂ .live .watch .test)
+  pub failedMask : after₁ .live .watch .mask ≡ after₂ .live .watch .mask
+  pub failedCount : after₁ .live .watch .failed ≡ after₂ .live .watch .failed
+  pub charged : after₁ .live .tally .charged ≡ after₂ .live .tally .charged
+  pub discharged : after₁ .live .tally .discharged ≡ after₂ .live .tally .discharged
+  pub commands : after₁ .live .tally .commands ≡ after₂ .live .tally .commands
+  pub longTerm : longEntries (after₁ .stores .faults) ≡ longEntries (after₂ .stores .faults)
+  pub shortTerm : shortEntries (after₁ .stores .recent) ≡ shortEntries (after₂ .stores .recent)
+  -- "each as document 01 lays it down for either list"
+  pub laidDown₁ : AfterList battery calls₁ answers₁ after₁ contactor₁
+  pub laidDown₂ : AfterList battery calls₂ answers₂ after₂ contactor₂
+  -- "Their contactors differ exactly when override is in force in just one run, state, command and test permit closing, and one or more
+  -- protections are tripped, all of them liftable."
+  pub contactorsDiffer : (contactorNumber contactor₁ ≢ contactorNumber contactor₂) ↔ ContactorsDiffer battery (ledger calls₁) (ledger calls₂)
+  -- "In either run the contactor is closed exactly when document 01's contactor rule, worked out on the ledger of that run's type and list
+  -- alone, says so."
+  pub closed₁ : (contactorNumber contactor₁ ≡ 1) ↔ Closed battery (ledger calls₁)
+  pub closed₂ : (contactorNumber contactor₂ ≡ 1) ↔ Closed battery (ledger calls₂)
+
+abbrev pub AnyTwoLists : Engine → Type 0
+AnyTwoLists engine =
+    (battery : ℕ) → T (isType battery) → (calls₁ calls₂ : List Event) → Alike calls₁ calls₂
+    → (answers₁ answers₂ : List ℕ) (after₁ after₂ : Record) (contactor₁ contactor₂ : Contactor)
+    → engine battery calls₁ answers₁ after₁ contactor₁ → engine battery calls₂ answers₂ after₂ contactor₂
+    → TwoRuns battery calls₁ calls₂ answers₁ answers₂ after₁ after₂ contactor₁ contactor₂
+
+-- ---- demand 1, for a call: on any record, reached by a list or not
+
+pub record Refused (before : Record) (e : Event) (answer : ℕ) (after : Record) : Type 0 where
+  -- "The answer to every call .. is a result or one refusal number of document 01"
+  pub listed : CallAnswer answer
+  -- 5, exactly for an unsound record
+  pub unsound : (answer ≡ 5) ↔ (¬ Sound before)
+  -- 6 to 10, on a sound one, by the table on its own state, last time and command count
+  pub byTable : Sound before
+      → answer ≡ refusal (before .live .control .state) (before .live .last) (before .live .tally .commands) e
+  -- "a refused call alters neither the record nor a lent byte"
+  pub unchanged : answer ≢ 0 → after ≡ before
+
+abbrev pub OnEveryRecord : (Record → Event → ℕ → Record → Type 0) → Type 0
+OnEveryRecord call =
+    (before : Record) (e : Event) (answer : ℕ) (after : Record) → call before e answer after → Refused before e answer after

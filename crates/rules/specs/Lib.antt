@@ -1,0 +1,17 @@
+pub mod Quantities
+pub mod Calls
+pub mod Numbers
+pub mod States
+pub mod Test
+pub mod Protections
+pub mod Trips
+pub mod Refusals
+pub mod Ledger
+pub mod Stores
+pub mod Accounts
+pub mod Contactor
+pub mod Alike
+pub mod Soundness
+pub mod Bytes
+pub mod Claims
+pub mod Examples

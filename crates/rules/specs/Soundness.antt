@@ -1,0 +1,103 @@
+-- Document 01, "Where each number is raised", its last paragraph: the record is unsound if one of these fails, and only then. Number 5 is
+-- for an unsound record. Here alone the rules speak of the record; and here is what it shows of its stores.
+use Prim.Native.Nat.{ℕ, zero, suc, _*_, _≤_, _<_}
+use mathlib.Core.Bool.{Bool, true, false, cond}
+use mathlib.Core.List.{List, [], _∷_}
+use lib.Dec.{T}
+use lib.IntN.{ℤ, pos}
+use lib.ListN.{take, getD}
+use Rattle.rules.specs.declared.units.Milliseconds.{Milliseconds}
+use Rattle.rules.specs.declared.units.Milliamperes.{Milliamperes}
+use Rattle.rules.specs.declared.tracking.Span.{Span}
+use Rattle.rules.specs.declared.tracking.Span.the-variants.{Idle, Beyond, Within}
+use Rattle.rules.specs.declared.tracking.Previous.{Previous}
+use Rattle.rules.specs.declared.tracking.Previous.the-variants.{Nothing, Frame}
+use Rattle.rules.specs.declared.tracking.ProtectionState.{ProtectionState}
+use Rattle.rules.specs.declared.stores.Entry.{Entry}
+use Rattle.rules.specs.declared.stores.Entry.the-variants.{Trip, Release}
+use Rattle.rules.specs.declared.stores.LongTerm.{LongTerm}
+use Rattle.rules.specs.declared.stores.ShortTerm.{ShortTerm}
+use Rattle.rules.specs.declared.battery.Record.{Record}
+use Rattle.rules.specs.Quantities.{missionTime, isType}
+use Rattle.rules.specs.Test.{currentInRange}
+
+-- ---- what the record shows
+
+-- what the record keeps of a protection
+abbrev pub idle : ProtectionState
+idle = record { span = Idle; tripped = false }
+
+abbrev pub stateAt : List ProtectionState → ℕ → ProtectionState
+stateAt states number = getD states number idle
+
+abbrev pub keptOf : Record → ℕ → ProtectionState
+keptOf r number = stateAt (r .live .watch .protections) number
+
+-- the entries in a store's places, counted or not
+abbrev pub tripPlaces : List Milliseconds → List ℕ → List ℤ → List Entry
+tripPlaces [] ps vs = []
+tripPlaces (t ∷ ts) [] vs = []
+tripPlaces (t ∷ ts) (p ∷ ps) [] = []
+tripPlaces (t ∷ ts) (p ∷ ps) (v ∷ vs) = Trip t p v ∷ tripPlaces ts ps vs
+
+abbrev pub placed : Bool → Milliseconds → ℕ → ℤ → Entry
+placed true t p v = Release t p
+placed false t p v = Trip t p v
+
+abbrev pub places : List Milliseconds → List ℕ → List ℤ → List Bool → List Entry
+places [] ps vs rs = []
+places (t ∷ ts) [] vs rs = []
+places (t ∷ ts) (p ∷ ps) [] rs = []
+places (t ∷ ts) (p ∷ ps) (v ∷ vs) [] = []
+places (t ∷ ts) (p ∷ ps) (v ∷ vs) (r ∷ rs) = placed r t p v ∷ places ts ps vs rs
+
+-- a store's entries: the counted ones
+unfoldable pub longEntries : LongTerm → List Entry
+longEntries s = take (s .count) (tripPlaces (s .times) (s .protections) (s .values))
+
+unfoldable pub shortEntries : ShortTerm → List Entry
+shortEntries s = take (s .count) (places (s .times) (s .protections) (s .values) (s .releases))
+
+-- ---- soundness
+
+-- a span start is not later than the last time
+abbrev pub StartedBy : ℕ → Span → Type 0
+StartedBy last Idle = Unit {0}
+StartedBy last (Beyond start) = start .0 ≤ last
+StartedBy last (Within start) = start .0 ≤ last
+
+-- nor is the last measurement
+abbrev pub MeasuredBy : ℕ → Previous → Type 0
+MeasuredBy last Nothing = Unit {0}
+MeasuredBy last (Frame t i) = t .0 ≤ last
+
+abbrev pub KeptInRange : Previous → Type 0
+KeptInRange Nothing = Unit {0}
+KeptInRange (Frame t i) = T (currentInRange i)
+
+-- every counted protection number is at most 7
+abbrev pub NumbersBelow8 : ℕ → List ℕ → Type 0
+NumbersBelow8 count numbers = (place : ℕ) → place < count → getD numbers place 0 ≤ 7
+
+-- document 01: "Unsound"; each part is one condition of its list
+pub record Sound (r : Record) : Type 0 where
+  -- "type not 1, 2, 3"
+  pub battery : T (isType (r .live .battery))
+  -- "last time above 345,600,000"
+  pub lastTime : r .live .last .0 ≤ missionTime
+  -- "more than 64 or 16 entries counted"
+  pub longCount : r .stores .faults .count ≤ 64
+  pub shortCount : r .stores .recent .count ≤ 16
+  -- "a counted entry's protection above 7"
+  pub longNumbers : NumbersBelow8 (r .stores .faults .count) (r .stores .faults .protections)
+  pub shortNumbers : NumbersBelow8 (r .stores .recent .count) (r .stores .recent .protections)
+  -- "a sensor mask above 13 bits"
+  pub mask : r .live .watch .mask < 8_192
+  -- "an account above 2,000,000 × last time"
+  pub charged : r .live .tally .charged .0 ≤ 2_000_000 * r .live .last .0
+  pub discharged : r .live .tally .discharged .0 ≤ 2_000_000 * r .live .last .0
+  -- "a span start or last measurement later than the last time"
+  pub spans : (number : ℕ) → number < 8 → StartedBy (r .live .last .0) (keptOf r number .span)
+  pub previous : MeasuredBy (r .live .last .0) (r .live .watch .previous)
+  -- "a kept current outside the plausible range"
+  pub current : KeptInRange (r .live .watch .previous)

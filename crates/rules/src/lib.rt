@@ -1,0 +1,9 @@
+// The types that every other crate stands on. The rules of document 01 over them are in specs/, one file for each heading.
+pub mod answers;
+pub mod battery;
+pub mod calls;
+pub mod reading;
+pub mod states;
+pub mod stores;
+pub mod tracking;
+pub mod units;

@@ -1,0 +1,116 @@
+-- One call on a record, and the run of a list of calls.
+use Prim.Native.Nat.{ℕ, zero, suc, _+_}
+use mathlib.Core.Bool.{Bool, true, false, not, cond, _&&_}
+use mathlib.Core.List.{List, [], _∷_}
+use Rattle.rules.specs.declared.units.Milliseconds.{Milliseconds}
+use Rattle.rules.specs.declared.reading.Reading.{Reading}
+use Rattle.rules.specs.declared.states.State.{State}
+use Rattle.rules.specs.declared.states.State.the-variants.{Unpowered, Dormant, Operational, Maintenance}
+use Rattle.rules.specs.declared.calls.Command.{Command}
+use Rattle.rules.specs.declared.calls.Command.the-variants.{Automated}
+use Rattle.rules.specs.declared.calls.Request.{Request}
+use Rattle.rules.specs.declared.calls.Request.the-variants.{Dormant as ToDormant, Operational as ToOperational, Maintenance as ToMaintenance}
+use Rattle.rules.specs.declared.calls.Event.{Event}
+use Rattle.rules.specs.declared.calls.Event.the-variants.{Measurement, PowerOn, PowerLoss, ContactorCommand, StateRequest, BattleOverride, ClearLongTerm}
+use Rattle.rules.specs.declared.battery.Control.{Control}
+use Rattle.rules.specs.declared.battery.Tally.{Tally}
+use Rattle.rules.specs.declared.battery.Live.{Live}
+use Rattle.rules.specs.declared.stores.Stores.{Stores}
+use Rattle.rules.specs.declared.battery.Record.{Record}
+use Rattle.rules.specs.declared.answers.Outcome.{Outcome}
+use Rattle.rules.specs.Test.{plausible}
+use Rattle.step.specs.Fresh.{noWatch, controlIn, noneRecent, noFaults}
+use Rattle.step.specs.Refusal.{refusal}
+use Rattle.step.specs.Track.{observe}
+use Rattle.step.specs.Push.{pushAll}
+use Rattle.step.specs.Charge.{charge}
+
+-- ---- what an accepted call makes of the live part
+
+abbrev pub measureLive : Milliseconds → Reading → Live → Live
+measureLive t r l = record {
+  battery = l .battery;
+  last = t;
+  control = l .control;
+  watch = observe (l .battery) t r (l .watch);
+  tally = charge (l .watch .previous) (plausible r) t (l .tally);
+}
+
+-- a session begins or ends
+abbrev pub beginLive : State → Milliseconds → Live → Live
+beginLive s t l = record { battery = l .battery; last = t; control = controlIn s; watch = noWatch; tally = l .tally }
+
+-- a call that sets nothing but these
+abbrev pub setLive : Milliseconds → Control → Tally → Live → Live
+setLive t c n l = record { battery = l .battery; last = t; control = c; watch = l .watch; tally = n }
+
+abbrev pub commandLive : Milliseconds → Command → Live → Live
+commandLive t c l =
+    setLive t (record { state = l .control .state; command = c; overriding = l .control .overriding })
+    (record { commands = l .tally .commands + 1; charged = l .tally .charged; discharged = l .tally .discharged }) l
+
+-- a state that is entered, and one that is kept
+abbrev pub enterState : State → Bool → Control → Control
+enterState s off c = record { state = s; command = Automated; overriding = not off && c .overriding }
+
+abbrev pub requestControl : Request → State → Control → Control
+requestControl ToDormant Unpowered c = enterState Dormant true c
+requestControl ToDormant Dormant c = c
+requestControl ToDormant Operational c = enterState Dormant true c
+requestControl ToDormant Maintenance c = enterState Dormant true c
+requestControl ToOperational Unpowered c = enterState Operational false c
+requestControl ToOperational Dormant c = enterState Operational false c
+requestControl ToOperational Operational c = c
+requestControl ToOperational Maintenance c = enterState Operational false c
+requestControl ToMaintenance Unpowered c = enterState Maintenance false c
+requestControl ToMaintenance Dormant c = enterState Maintenance false c
+requestControl ToMaintenance Operational c = enterState Maintenance false c
+requestControl ToMaintenance Maintenance c = c
+
+abbrev pub overrideControl : Bool → Control → Control
+overrideControl on c = record { state = c .state; command = c .command; overriding = on }
+
+abbrev pub advanceLive : Event → Live → Live
+advanceLive (Measurement t r) l = measureLive t r l
+advanceLive (PowerOn t) l = beginLive Dormant t l
+advanceLive (PowerLoss t) l = beginLive Unpowered t l
+advanceLive (ContactorCommand t c) l = commandLive t c l
+advanceLive (StateRequest t q) l = setLive t (requestControl q (l .control .state) (l .control)) (l .tally) l
+advanceLive (BattleOverride t on) l = setLive t (overrideControl on (l .control)) (l .tally) l
+advanceLive (ClearLongTerm t) l = setLive t (l .control) (l .tally) l
+
+-- ---- and of the stores: from the live part before it and after it
+
+abbrev pub advanceStores : Event → Live → Live → Stores → Stores
+advanceStores (Measurement t r) before after s =
+    pushAll (before .battery) t r (before .watch .protections) (after .watch .protections) s
+advanceStores (PowerOn t) before after s = record { recent = noneRecent; faults = s .faults }
+advanceStores (PowerLoss t) before after s = record { recent = noneRecent; faults = s .faults }
+advanceStores (ContactorCommand t c) before after s = s
+advanceStores (StateRequest t q) before after s = s
+advanceStores (BattleOverride t on) before after s = s
+advanceStores (ClearLongTerm t) before after s = record { recent = s .recent; faults = noFaults }
+
+abbrev pub advance : Record → Event → Record
+advance r e = record {
+  live = advanceLive e (r .live);
+  stores = advanceStores e (r .live) (advanceLive e (r .live)) (r .stores);
+}
+
+-- ---- a call and a list of calls
+
+abbrev pub answer : ℕ → Record → Record → Outcome
+answer zero accepted before = record { number = 0; after = accepted }
+answer (suc n) accepted before = record { number = suc n; after = before }
+
+abbrev pub call : Record → Event → Outcome
+call r e = answer (refusal r e) (advance r e) r
+
+-- each call on the record that the one before it left
+abbrev pub run : Record → List Event → Record
+run r [] = r
+run r (e ∷ es) = run (call r e .after) es
+
+abbrev pub answers : Record → List Event → List ℕ
+answers r [] = []
+answers r (e ∷ es) = call r e .number ∷ answers (call r e .after) es

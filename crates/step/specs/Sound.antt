@@ -1,0 +1,60 @@
+-- Soundness of a record as a test that computes.
+use Prim.Native.Nat.{ℕ, zero, suc, _*_}
+use mathlib.Core.Bool.{Bool, true, false, _&&_}
+use mathlib.Core.List.{List, [], _∷_}
+use lib.Dec.{leb, ltb}
+use lib.IntN.{pos, negsuc}
+use lib.ListN.{getD}
+use lib.Signed.{leZ}
+use Rattle.rules.specs.declared.tracking.Span.{Span}
+use Rattle.rules.specs.declared.tracking.Span.the-variants.{Idle, Beyond, Within}
+use Rattle.rules.specs.declared.tracking.Previous.{Previous}
+use Rattle.rules.specs.declared.tracking.Previous.the-variants.{Nothing, Frame}
+use Rattle.rules.specs.declared.tracking.ProtectionState.{ProtectionState}
+use Rattle.rules.specs.declared.tracking.Watch.{Watch}
+use Rattle.rules.specs.declared.stores.Stores.{Stores}
+use Rattle.rules.specs.declared.battery.Live.{Live}
+use Rattle.rules.specs.declared.battery.Record.{Record}
+use Rattle.step.specs.Fresh.{clearState}
+
+-- what is kept of a protection
+abbrev pub at : List ProtectionState → ℕ → ProtectionState
+at states number = getD states number clearState
+
+-- a test of each of the protections 0 to 7
+abbrev pub eachOf8 : (ℕ → Bool) → Bool
+eachOf8 test = test 0 && (test 1 && (test 2 && (test 3 && (test 4 && (test 5 && (test 6 && test 7))))))
+
+abbrev pub startedBy : ℕ → Span → Bool
+startedBy last Idle = true
+startedBy last (Beyond start) = leb (start .0) last
+startedBy last (Within start) = leb (start .0) last
+
+abbrev pub measuredBy : ℕ → Previous → Bool
+measuredBy last Nothing = true
+measuredBy last (Frame t i) = leb (t .0) last && (leZ (negsuc 1_999_999) (i .0) && leZ (i .0) (pos 2_000_000))
+
+-- the numbers in the first places are at most 7
+abbrev pub below8 : ℕ → List ℕ → Bool
+below8 zero numbers = true
+below8 (suc n) numbers = below8 n numbers && leb (getD numbers n 0) 7
+
+abbrev pub soundWatch : ℕ → Watch → Bool
+soundWatch last w =
+    ltb (w .mask) 8_192 && (measuredBy last (w .previous) && eachOf8 (λ number. startedBy last (at (w .protections) number .span)))
+
+unfoldable pub soundLive : Live → Bool
+soundLive l =
+    (leb 1 (l .battery) && leb (l .battery) 3)
+    && (leb (l .last .0) 345_600_000
+    && (leb (l .tally .charged .0) (2_000_000 * l .last .0)
+    && (leb (l .tally .discharged .0) (2_000_000 * l .last .0)
+    && soundWatch (l .last .0) (l .watch))))
+
+unfoldable pub soundStores : Stores → Bool
+soundStores s =
+    (leb (s .faults .count) 64 && below8 (s .faults .count) (s .faults .protections))
+    && (leb (s .recent .count) 16 && below8 (s .recent .count) (s .recent .protections))
+
+abbrev pub sound : Record → Bool
+sound r = soundLive (r .live) && soundStores (r .stores)

@@ -16,7 +16,8 @@ use Rattle.rules.specs.Stores.{longTerm, shortTerm}
 use Rattle.rules.specs.Accounts.{charged, discharged}
 use Rattle.rules.specs.Contactor.{Closed, ContactorsDiffer}
 use Rattle.rules.specs.Alike.{Alike}
-use Rattle.rules.specs.Soundness.{Sound, keptOf, longEntries, shortEntries}
+use Rattle.rules.specs.Shown.{keptOf, longEntries, shortEntries}
+use Rattle.rules.specs.Soundness.{Sound}
 
 -- An engine, as what its runs may be: from the fresh record of a type through a list of calls, the numbers that it answers call by call,
 -- the record that it leaves and the contactor that it then has.

@@ -11,6 +11,7 @@ pub mod Stores
 pub mod Accounts
 pub mod Contactor
 pub mod Alike
+pub mod Shown
 pub mod Soundness
 pub mod Bytes
 pub mod Claims

@@ -1,64 +1,17 @@
 -- Document 01, "Where each number is raised", its last paragraph: the record is unsound if one of these fails, and only then. Number 5 is
--- for an unsound record. Here alone the rules speak of the record; and here is what it shows of its stores.
-use Prim.Native.Nat.{ℕ, zero, suc, _*_, _≤_, _<_}
-use mathlib.Core.Bool.{Bool, true, false, cond}
-use mathlib.Core.List.{List, [], _∷_}
+-- for an unsound record.
+use Prim.Native.Nat.{ℕ, _*_, _≤_, _<_}
+use mathlib.Core.List.{List}
 use lib.Dec.{T}
-use lib.IntN.{ℤ, pos}
-use lib.ListN.{take, getD}
-use Rattle.rules.specs.declared.units.Milliseconds.{Milliseconds}
-use Rattle.rules.specs.declared.units.Milliamperes.{Milliamperes}
+use lib.ListN.{getD}
 use Rattle.rules.specs.declared.tracking.Span.{Span}
 use Rattle.rules.specs.declared.tracking.Span.the-variants.{Idle, Beyond, Within}
 use Rattle.rules.specs.declared.tracking.Previous.{Previous}
 use Rattle.rules.specs.declared.tracking.Previous.the-variants.{Nothing, Frame}
-use Rattle.rules.specs.declared.tracking.ProtectionState.{ProtectionState}
-use Rattle.rules.specs.declared.stores.Entry.{Entry}
-use Rattle.rules.specs.declared.stores.Entry.the-variants.{Trip, Release}
-use Rattle.rules.specs.declared.stores.LongTerm.{LongTerm}
-use Rattle.rules.specs.declared.stores.ShortTerm.{ShortTerm}
 use Rattle.rules.specs.declared.battery.Record.{Record}
 use Rattle.rules.specs.Quantities.{missionTime, isType}
 use Rattle.rules.specs.Test.{currentInRange}
-
--- ---- what the record shows
-
--- what the record keeps of a protection
-abbrev pub idle : ProtectionState
-idle = record { span = Idle; tripped = false }
-
-abbrev pub stateAt : List ProtectionState → ℕ → ProtectionState
-stateAt states number = getD states number idle
-
-abbrev pub keptOf : Record → ℕ → ProtectionState
-keptOf r number = stateAt (r .live .watch .protections) number
-
--- the entries in a store's places, counted or not
-abbrev pub tripPlaces : List Milliseconds → List ℕ → List ℤ → List Entry
-tripPlaces [] ps vs = []
-tripPlaces (t ∷ ts) [] vs = []
-tripPlaces (t ∷ ts) (p ∷ ps) [] = []
-tripPlaces (t ∷ ts) (p ∷ ps) (v ∷ vs) = Trip t p v ∷ tripPlaces ts ps vs
-
-abbrev pub placed : Bool → Milliseconds → ℕ → ℤ → Entry
-placed true t p v = Release t p
-placed false t p v = Trip t p v
-
-abbrev pub places : List Milliseconds → List ℕ → List ℤ → List Bool → List Entry
-places [] ps vs rs = []
-places (t ∷ ts) [] vs rs = []
-places (t ∷ ts) (p ∷ ps) [] rs = []
-places (t ∷ ts) (p ∷ ps) (v ∷ vs) [] = []
-places (t ∷ ts) (p ∷ ps) (v ∷ vs) (r ∷ rs) = placed r t p v ∷ places ts ps vs rs
-
--- a store's entries: the counted ones
-unfoldable pub longEntries : LongTerm → List Entry
-longEntries s = take (s .count) (tripPlaces (s .times) (s .protections) (s .values))
-
-unfoldable pub shortEntries : ShortTerm → List Entry
-shortEntries s = take (s .count) (places (s .times) (s .protections) (s .values) (s .releases))
-
--- ---- soundness
+use Rattle.rules.specs.Shown.{keptOf}
 
 -- a span start is not later than the last time
 abbrev pub StartedBy : ℕ → Span → Type 0

@@ -14,7 +14,7 @@ use Rattle.rules.specs.declared.tracking.ProtectionState.{ProtectionState}
 use Rattle.rules.specs.declared.battery.Live.{Live}
 use Rattle.rules.specs.declared.battery.Record.{Record}
 use Rattle.rules.specs.Protections.{protection}
-use Rattle.step.specs.Sound.{at, eachOf8}
+use Rattle.step.specs.Sound.{at, all, listOf}
 
 abbrev pub hasPassed : TestResult → Bool
 hasPassed NotRun = false
@@ -34,7 +34,7 @@ ready Maintenance ForceClosed = true
 -- no protection holds the contactor open: each is clear, or liftable with override on
 abbrev pub lifted : ℕ → Bool → List ProtectionState → Bool
 lifted battery overriding states =
-    eachOf8 (λ number. not (at states number .tripped) || (overriding && protection battery number .liftable))
+    all (listOf 8 (λ number. not (at states number .tripped) || (overriding && protection battery number .liftable)))
 
 unfoldable pub closes : Live → Bool
 closes l =

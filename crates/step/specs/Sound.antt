@@ -21,9 +21,15 @@ use Rattle.step.specs.Fresh.{clearState}
 abbrev pub at : List ProtectionState → ℕ → ProtectionState
 at states number = getD states number clearState
 
--- a test of each of the protections 0 to 7
-abbrev pub eachOf8 : (ℕ → Bool) → Bool
-eachOf8 test = test 0 && (test 1 && (test 2 && (test 3 && (test 4 && (test 5 && (test 6 && test 7))))))
+-- every test of a list
+abbrev pub all : List Bool → Bool
+all [] = true
+all (test ∷ tests) = test && all tests
+
+-- a list of n, from what stands at each place
+abbrev pub listOf : {A : Type 0} → ℕ → (ℕ → A) → List A
+listOf zero f = []
+listOf (suc n) f = f zero ∷ listOf n (λ k. f (suc k))
 
 abbrev pub startedBy : ℕ → Span → Bool
 startedBy last Idle = true
@@ -32,29 +38,48 @@ startedBy last (Within start) = leb (start .0) last
 
 abbrev pub measuredBy : ℕ → Previous → Bool
 measuredBy last Nothing = true
-measuredBy last (Frame t i) = leb (t .0) last && (leZ (negsuc 1_999_999) (i .0) && leZ (i .0) (pos 2_000_000))
+measuredBy last (Frame t i) = leb (t .0) last
+
+abbrev pub currentKept : Previous → Bool
+currentKept Nothing = true
+currentKept (Frame t i) = leZ (negsuc 1_999_999) (i .0) && leZ (i .0) (pos 2_000_000)
 
 -- the numbers in the first places are at most 7
 abbrev pub below8 : ℕ → List ℕ → Bool
 below8 zero numbers = true
 below8 (suc n) numbers = below8 n numbers && leb (getD numbers n 0) 7
 
-abbrev pub soundWatch : ℕ → Watch → Bool
-soundWatch last w =
-    ltb (w .mask) 8_192 && (measuredBy last (w .previous) && eachOf8 (λ number. startedBy last (at (w .protections) number .span)))
+-- what a power on or a power loss writes anew, at a last time
+abbrev pub watchTests : ℕ → Watch → List Bool
+watchTests last w =
+    ltb (w .mask) 8_192
+    ∷ measuredBy last (w .previous)
+    ∷ currentKept (w .previous)
+    ∷ all (listOf 8 (λ number. startedBy last (at (w .protections) number .span)))
+    ∷ []
+
+abbrev pub liveTests : Live → List Bool
+liveTests l =
+    leb 1 (l .battery)
+    ∷ leb (l .battery) 3
+    ∷ leb (l .last .0) 345_600_000
+    ∷ leb (l .tally .charged .0) (2_000_000 * l .last .0)
+    ∷ leb (l .tally .discharged .0) (2_000_000 * l .last .0)
+    ∷ watchTests (l .last .0) (l .watch)
+
+abbrev pub storesTests : Stores → List Bool
+storesTests s =
+    leb (s .faults .count) 64
+    ∷ leb (s .recent .count) 16
+    ∷ below8 (s .faults .count) (s .faults .protections)
+    ∷ below8 (s .recent .count) (s .recent .protections)
+    ∷ []
 
 unfoldable pub soundLive : Live → Bool
-soundLive l =
-    (leb 1 (l .battery) && leb (l .battery) 3)
-    && (leb (l .last .0) 345_600_000
-    && (leb (l .tally .charged .0) (2_000_000 * l .last .0)
-    && (leb (l .tally .discharged .0) (2_000_000 * l .last .0)
-    && soundWatch (l .last .0) (l .watch))))
+soundLive l = all (liveTests l)
 
 unfoldable pub soundStores : Stores → Bool
-soundStores s =
-    (leb (s .faults .count) 64 && below8 (s .faults .count) (s .faults .protections))
-    && (leb (s .recent .count) 16 && below8 (s .recent .count) (s .recent .protections))
+soundStores s = all (storesTests s)
 
 abbrev pub sound : Record → Bool
 sound r = soundLive (r .live) && soundStores (r .stores)

@@ -14,7 +14,7 @@ use Rattle.rules.specs.declared.tracking.ProtectionState.{ProtectionState}
 use Rattle.rules.specs.declared.tracking.Watch.{Watch}
 use Rattle.rules.specs.Test.{plausible, failedMask, failedCount}
 use Rattle.rules.specs.Protections.{Protection, protection}
-use Rattle.step.specs.Sound.{at}
+use Rattle.step.specs.Sound.{at, listOf}
 
 -- ---- one protection
 
@@ -52,11 +52,8 @@ trackOne p t r s = tracked (plausible r && p .beyond r) (plausible r && p .withi
 
 -- ---- all of them
 
-abbrev pub eight : {A : Type 0} → (ℕ → A) → List A
-eight f = f 0 ∷ f 1 ∷ f 2 ∷ f 3 ∷ f 4 ∷ f 5 ∷ f 6 ∷ f 7 ∷ []
-
 unfoldable pub trackAll : ℕ → Milliseconds → Reading → List ProtectionState → List ProtectionState
-trackAll battery t r states = eight (λ number. trackOne (protection battery number) t r (at states number))
+trackAll battery t r states = listOf 8 (λ number. trackOne (protection battery number) t r (at states number))
 
 unfoldable pub observe : ℕ → Milliseconds → Reading → Watch → Watch
 observe battery t r w = record {

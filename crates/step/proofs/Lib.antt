@@ -1,0 +1,4 @@
+pub mod Bools
+pub mod Tracking
+pub mod Refusals
+pub mod Sounds

@@ -1,0 +1,140 @@
+-- The step's test of soundness is document 01's list of conditions, no more and no less. Assumes nothing.
+use mathlib.Core.Path.{_≡_, refl, sym, ap, subst, _∙_}
+use mathlib.Core.Logic.{_↔_, _⊎_, inl, inr}
+use mathlib.Core.Bool.{Bool, true, false, not, _&&_, _||_}
+use mathlib.Core.List.{List, [], _∷_}
+use Prim.Native.Nat.{ℕ, zero, suc, _*_, _≤_, _<_}
+use native.Mathlib.Omega.{arith}
+use native.Mathlib.Nat.{eq-or-lt-of-le, not-suc-le-zero, le-of-suc-le-suc}
+use borrow.Author.Tests.{eqb-false, eq-eqb}
+use lib.Dec.{T, leb, ltb, eqb, leb→le, le→leb, ltb→lt, lt→ltb, eqb→eq}
+use lib.ListN.{getD}
+use Rattle.rules.specs.declared.tracking.Span.{Span}
+use Rattle.rules.specs.declared.tracking.Span.the-variants.{Idle, Beyond, Within}
+use Rattle.rules.specs.declared.tracking.Previous.{Previous}
+use Rattle.rules.specs.declared.tracking.Previous.the-variants.{Nothing, Frame}
+use Rattle.rules.specs.declared.battery.Record.{Record}
+use Rattle.rules.specs.Quantities.{isType, missionTime}
+use Rattle.rules.specs.Shown.{keptOf}
+use Rattle.rules.specs.Soundness.{Sound, StartedBy, MeasuredBy, KeptInRange, NumbersBelow8}
+use Rattle.step.specs.Sound.{at, all, listOf, startedBy, measuredBy, currentKept, below8, liveTests, storesTests, soundLive, soundStores, sound}
+use Rattle.step.proofs.Bools.{and-iff, Each, all-each, all-places}
+
+-- ---- a battery type
+
+pub type-is : (b : ℕ) → (T (leb 1 b) × T (leb b 3)) ↔ T (isType b)
+type-is b = (λ h. to (leb→le 1 b (h .0)) (leb→le b 3 (h .1)), λ h. back (eqb b 1) refl (eqb b 2) refl (eqb b 3) refl h)
+  where
+    to : 1 ≤ b → b ≤ 3 → T (isType b)
+    to h k = go (eqb b 1) refl (eqb b 2) refl (eqb b 3) refl
+      where
+        go : (x : Bool) → eqb b 1 ≡ x → (y : Bool) → eqb b 2 ≡ y → (z : Bool) → eqb b 3 ≡ z → T (x || (y || z))
+        go true p y q z r = tt
+        go false p true q z r = tt
+        go false p false q true r = tt
+        go false p false q false r = absurd (omega (arith, eqb-false b 1 p, eqb-false b 2 q, eqb-false b 3 r))
+
+    from : (n : ℕ) → 1 ≤ n → n ≤ 3 → T (eqb b n) → T (leb 1 b) × T (leb b 3)
+    from n h k e = (le→leb 1 b (omega (arith, eqb→eq b n e)), le→leb b 3 (omega (arith, eqb→eq b n e)))
+
+    back : (x : Bool) → eqb b 1 ≡ x → (y : Bool) → eqb b 2 ≡ y → (z : Bool) → eqb b 3 ≡ z → T (x || (y || z)) → T (leb 1 b) × T (leb b 3)
+    back true p y q z r h = from 1 (omega arith) (omega arith) (subst T (sym p) tt)
+    back false p true q z r h = from 2 (omega arith) (omega arith) (subst T (sym q) tt)
+    back false p false q true r h = from 3 (omega arith) (omega arith) (subst T (sym r) tt)
+    back false p false q false r h = absurd h
+
+-- ---- the counted places of a store
+
+pub below8-is : (n : ℕ) (numbers : List ℕ) → T (below8 n numbers) ↔ NumbersBelow8 n numbers
+below8-is zero numbers = (λ h place k. absurd (not-suc-le-zero k), λ f. tt)
+below8-is (suc n) numbers = step (below8-is n numbers)
+  where
+    here : T (below8 n numbers && leb (getD numbers n 0) 7) ↔ (T (below8 n numbers) × T (leb (getD numbers n 0) 7))
+    here = and-iff (below8 n numbers) (leb (getD numbers n 0) 7)
+
+    step : T (below8 n numbers) ↔ NumbersBelow8 n numbers → T (below8 (suc n) numbers) ↔ NumbersBelow8 (suc n) numbers
+    step rest = (λ h place k. last-or h place (eq-or-lt-of-le (le-of-suc-le-suc k)), λ f. here .1 (rest .1 (λ place k. f place (omega arith)), le→leb _ _ (f n (omega arith))))
+      where
+        last-or : T (below8 (suc n) numbers) → (place : ℕ) → (place ≡ n) ⊎ (place < n) → getD numbers place 0 ≤ 7
+        last-or h place (inl e) = rw e (leb→le _ _ (here .0 h .1))
+        last-or h place (inr k) = rest .0 (here .0 h .0) place k
+
+-- ---- spans and the last measurement
+
+started-is : (last : ℕ) (s : Span) → T (startedBy last s) ↔ StartedBy last s
+started-is last Idle = (λ h. tt, λ h. tt)
+started-is last (Beyond u) = (leb→le _ _, le→leb _ _)
+started-is last (Within u) = (leb→le _ _, le→leb _ _)
+
+measured-is : (last : ℕ) (p : Previous) → T (measuredBy last p) ↔ MeasuredBy last p
+measured-is last Nothing = (λ h. tt, λ h. tt)
+measured-is last (Frame t i) = (leb→le _ _, le→leb _ _)
+
+kept-is : (p : Previous) → T (currentKept p) ↔ KeptInRange p
+kept-is Nothing = (λ h. tt, λ h. tt)
+kept-is (Frame t i) = (λ h. h, λ h. h)
+
+-- ---- the record
+
+module _ (r : Record) where
+  spans : T (all (listOf 8 (λ number. startedBy (r .live .last .0) (at (r .live .watch .protections) number .span))))
+      ↔ ((number : ℕ) → number < 8 → StartedBy (r .live .last .0) (keptOf r number .span))
+  spans =
+      let every = all-places 8 (λ number. startedBy (r .live .last .0) (at (r .live .watch .protections) number .span)) in
+      (λ h number k. started-is (r .live .last .0) (keptOf r number .span) .0 (every .0 h number k), λ f. every .1 (λ number k. started-is (r .live .last .0) (keptOf r number .span) .1 (f number k)))
+
+  to : Each (liveTests (r .live)) → Each (storesTests (r .stores)) → Sound r
+  to (low, (high, (last, (charged, (discharged, (mask, (measured, (current, (spans', _))))))))) (long, (short, (longs, (shorts, _)))) = record {
+    battery = type-is (r .live .battery) .0 (low, high);
+    lastTime = leb→le _ _ last;
+    longCount = leb→le _ _ long;
+    shortCount = leb→le _ _ short;
+    longNumbers = below8-is (r .stores .faults .count) (r .stores .faults .protections) .0 longs;
+    shortNumbers = below8-is (r .stores .recent .count) (r .stores .recent .protections) .0 shorts;
+    mask = ltb→lt _ _ mask;
+    charged = leb→le _ _ charged;
+    discharged = leb→le _ _ discharged;
+    spans = spans .0 spans';
+    previous = measured-is (r .live .last .0) (r .live .watch .previous) .0 measured;
+    current = kept-is (r .live .watch .previous) .0 current;
+  }
+
+  live-from : Sound r → Each (liveTests (r .live))
+  live-from s =
+      let type = type-is (r .live .battery) .1 (s .battery) in (
+        type .0,
+        (
+          type .1,
+          (
+            le→leb _ _ (s .lastTime),
+            (
+              le→leb _ _ (s .charged),
+              (
+                le→leb _ _ (s .discharged),
+                (
+                  lt→ltb _ _ (s .mask),
+                  (
+                    measured-is (r .live .last .0) (r .live .watch .previous) .1 (s .previous),
+                    (
+                      kept-is (r .live .watch .previous) .1 (s .current),
+                      (spans .1 (s .spans), tt),
+                    ),
+                  ),
+                ),
+              ),
+            ),
+          ),
+        ),
+      )
+
+  stores-from : Sound r → Each (storesTests (r .stores))
+  stores-from s =
+      (le→leb _ _ (s .longCount), (le→leb _ _ (s .shortCount), (below8-is (r .stores .faults .count) (r .stores .faults .protections) .1 (s .longNumbers), (below8-is (r .stores .recent .count) (r .stores .recent .protections) .1 (s .shortNumbers), tt))))
+
+  pub sound-is : T (sound r) ↔ Sound r
+  unfolding soundLive soundStores
+  sound-is =
+      let parts = and-iff (all (liveTests (r .live))) (all (storesTests (r .stores))) in (
+        λ h. to (all-each (liveTests (r .live)) .0 (parts .0 h .0)) (all-each (storesTests (r .stores)) .0 (parts .0 h .1)),
+        λ s. parts .1 (all-each (liveTests (r .live)) .1 (live-from s), all-each (storesTests (r .stores)) .1 (stores-from s)),
+      )

@@ -6,3 +6,7 @@ pub mod Lists
 pub mod Storing
 pub mod Adding
 pub mod Charging
+pub mod Shows
+pub mod Accepting
+pub mod Runs
+pub mod Closing

@@ -1,0 +1,146 @@
+-- The contactor of a record is closed exactly when the rule on the ledger that it shows says so. Assumes nothing.
+use mathlib.Core.Path.{_≡_, refl, sym, ap, ap₂, subst, _∙_}
+use mathlib.Core.Logic.{_↔_, _⊎_, inl, inr, _≢_}
+use mathlib.Core.Bool.{Bool, true, false, not, cond, _&&_, _||_}
+use mathlib.Core.List.{List, [], _∷_}
+use Prim.Native.Nat.{ℕ, zero, suc, _≤_, _<_}
+use native.Mathlib.Omega.{arith}
+use lib.Dec.{T}
+use Rattle.rules.specs.declared.states.State.{State}
+use Rattle.rules.specs.declared.states.State.the-variants.{Unpowered, Dormant, Operational, Maintenance}
+use Rattle.rules.specs.declared.states.TestResult.{TestResult}
+use Rattle.rules.specs.declared.states.TestResult.the-variants.{NotRun, Passed, Failed}
+use Rattle.rules.specs.declared.states.Contactor.the-variants.{Open as IsOpen, Closed as IsClosed}
+use Rattle.rules.specs.declared.calls.Command.{Command}
+use Rattle.rules.specs.declared.calls.Command.the-variants.{Automated, Open, ForceClosed}
+use Rattle.rules.specs.declared.tracking.ProtectionState.{ProtectionState}
+use Rattle.rules.specs.declared.battery.Live.{Live}
+use Rattle.rules.specs.declared.battery.Record.{Record}
+use Rattle.rules.specs.Numbers.{testNumber, contactorNumber}
+use Rattle.rules.specs.Protections.{protection}
+use Rattle.rules.specs.Ledger.{Ledger, testOf, TrippedOn, isTrippedOn, Accepted}
+use Rattle.rules.specs.Contactor.{StateAndCommand, PermitsClosing, InForce, AllLiftable, NoneTripped, SomeTripped, Closed, ContactorsDiffer}
+use Rattle.rules.proofs.Decide.{is-tripped}
+use Rattle.step.specs.Sound.{at, all, listOf}
+use Rattle.step.specs.Close.{hasPassed, ready, lifted, closes, contactor}
+use Rattle.step.proofs.Bools.{and-iff, is-true, all-places}
+use Rattle.step.proofs.Shows.{Shows}
+
+-- ---- test, state and command
+
+passed-is : (t : TestResult) → T (hasPassed t) ↔ (testNumber t ≡ 1)
+passed-is NotRun = (λ h. absurd h, λ e. absurd (omega arith))
+passed-is Passed = (λ h. refl, λ h. tt)
+passed-is Failed = (λ h. absurd h, λ e. absurd (omega arith))
+
+ready-is : (l : Ledger) → T (ready (l .state) (l .command)) ↔ StateAndCommand l
+ready-is l = (to (l .state) refl (l .command) refl, from)
+  where
+    to : (s : State) → l .state ≡ s → (c : Command) → l .command ≡ c → T (ready s c) → StateAndCommand l
+    to Unpowered e c f h = absurd h
+    to Dormant e c f h = absurd h
+    to Operational e Automated f h = inl (e, f)
+    to Operational e Open f h = absurd h
+    to Operational e ForceClosed f h = absurd h
+    to Maintenance e Automated f h = absurd h
+    to Maintenance e Open f h = absurd h
+    to Maintenance e ForceClosed f h = inr (e, f)
+
+    from : StateAndCommand l → T (ready (l .state) (l .command))
+    from (inl (e, f)) = rw (e, f) tt
+    from (inr (e, f)) = rw (e, f) tt
+
+-- ---- the protections
+
+-- a clear protection, or a liftable one with override on
+lift-is : (tripped overriding liftable : Bool) → T (not tripped || (overriding && liftable)) ↔ (T tripped → T overriding × T liftable)
+lift-is false o f = (λ h t. absurd t, λ g. tt)
+lift-is true o f = (λ h t. and-iff o f .0 h, λ g. and-iff o f .1 (g tt))
+
+module _ (battery : ℕ) (states : List ProtectionState) (l : Ledger)
+  (shown : (i : ℕ) → i < 8 → at states i .tripped ≡ isTrippedOn battery l i) where
+  tripped-is : (i : ℕ) → i < 8 → T (at states i .tripped) ↔ TrippedOn battery l i
+  tripped-is i h = rw (shown i h) (is-tripped (protection battery i) (l .measured))
+
+  -- each tripped protection is liftable with override in force
+  abbrev EachLifted : Bool → Type 0
+  EachLifted overriding = (i : ℕ) → i < 8 → TrippedOn battery l i → T overriding × T (protection battery i .liftable)
+
+  lifted-is : (overriding : Bool) → T (lifted battery overriding states) ↔ EachLifted overriding
+  lifted-is overriding = (to, from)
+    where
+      every : T (lifted battery overriding states) ↔ ((i : ℕ) → i < 8 → T (not (at states i .tripped) || (overriding && protection battery i .liftable)))
+      every = all-places 8 (λ i. not (at states i .tripped) || (overriding && protection battery i .liftable))
+
+      to : T (lifted battery overriding states) → EachLifted overriding
+      to h i k t = lift-is (at states i .tripped) overriding (protection battery i .liftable) .0 (every .0 h i k) (tripped-is i k .1 t)
+
+      from : EachLifted overriding → T (lifted battery overriding states)
+      from f = every .1 (λ i k. lift-is (at states i .tripped) overriding (protection battery i .liftable) .1 (λ t. f i k (tripped-is i k .0 t)))
+
+  -- in the paper's words
+  rule-is : EachLifted (l .override) ↔ ((AllLiftable battery l × InForce l) ⊎ NoneTripped battery l)
+  rule-is = (to (l .override) refl, from)
+    where
+      to : (o : Bool) → l .override ≡ o → EachLifted (l .override) → (AllLiftable battery l × InForce l) ⊎ NoneTripped battery l
+      to true e f = inl ((λ i k t. f i k t .1), e)
+      to false e f = inr (λ i k t. subst T e (f i k t .0))
+
+      from : (AllLiftable battery l × InForce l) ⊎ NoneTripped battery l → EachLifted (l .override)
+      from (inl (all, on)) = λ i k t. (is-true (l .override) .1 on, all i k t)
+      from (inr none) = λ i k t. absurd (none i k t)
+
+-- ---- closed
+
+contactor-number : (b : Bool) → (contactorNumber (cond b IsClosed IsOpen) ≡ 1) ↔ T b
+contactor-number true = (λ e. tt, λ h. refl)
+contactor-number false = (λ e. absurd (omega arith), λ h. absurd h)
+
+module _ (r : Record) (l : Ledger) (past : List Accepted) (k : Shows r l past) where
+  abbrev permits : Bool
+  permits = hasPassed (r .live .watch .test) && ready (r .live .control .state) (r .live .control .command)
+
+  shown : (i : ℕ) → i < 8 → at (r .live .watch .protections) i .tripped ≡ isTrippedOn (r .live .battery) l i
+  shown i h = k .watch .protections i h .tripped
+
+  pub permits-is : T permits ↔ PermitsClosing l
+  permits-is = (to, from)
+    where
+      both : T permits ↔ (T (hasPassed (r .live .watch .test)) × T (ready (r .live .control .state) (r .live .control .command)))
+      both = and-iff (hasPassed (r .live .watch .test)) (ready (r .live .control .state) (r .live .control .command))
+
+      same-ready : ready (r .live .control .state) (r .live .control .command) ≡ ready (l .state) (l .command)
+      same-ready = rw (k .control .state, k .control .command) refl
+
+      to : T permits → PermitsClosing l
+      to h = record {
+        test = sym (k .watch .test) ∙ passed-is (r .live .watch .test) .0 (both .0 h .0);
+        stateAndCommand = ready-is l .0 (subst T same-ready (both .0 h .1));
+      }
+
+      from : PermitsClosing l → T permits
+      from p = both .1 (
+        passed-is (r .live .watch .test) .1 (k .watch .test ∙ p .test),
+        subst T (sym same-ready) (ready-is l .1 (p .stateAndCommand)),
+      )
+
+  pub closed-is : (contactorNumber (contactor r) ≡ 1) ↔ Closed (r .live .battery) l
+  unfolding closes
+  closed-is = (to, from)
+    where
+      lift : Bool
+      lift = lifted (r .live .battery) (r .live .control .overriding) (r .live .watch .protections)
+
+      rule : T lift ↔ ((AllLiftable (r .live .battery) l × InForce l) ⊎ NoneTripped (r .live .battery) l)
+      rule =
+          let a = lifted-is (r .live .battery) (r .live .watch .protections) l shown (r .live .control .overriding) in
+          let b = rule-is (r .live .battery) (r .live .watch .protections) l shown in
+          (λ h. b .0 (rw (k .control .override) at (a .0 h)), λ c. a .1 (rw (k .control .override) (b .1 c)))
+
+      to : contactorNumber (contactor r) ≡ 1 → Closed (r .live .battery) l
+      to e =
+          let h = and-iff permits lift .0 (contactor-number (permits && lift) .0 e) in
+          record { permits = permits-is .0 (h .0); protections = rule .0 (h .1) }
+
+      from : Closed (r .live .battery) l → contactorNumber (contactor r) ≡ 1
+      from c = contactor-number (permits && lift) .1 (and-iff permits lift .1 (permits-is .1 (c .permits), rule .1 (c .protections)))

@@ -1,0 +1,127 @@
+-- The record shows the ledger: this is kept by every call, from any record and ledger that have it. Assumes nothing.
+use mathlib.Core.Path.{_≡_, refl, sym, ap, ap₂, subst, _∙_}
+use mathlib.Core.Logic.{_↔_}
+use mathlib.Core.Bool.{Bool, true, false, not, cond, _&&_}
+use mathlib.Core.List.{List, [], _∷_, _++_, append-nil}
+use Prim.Native.Nat.{ℕ, zero, suc, _+_, _*_, _≤_, _<_}
+use native.Mathlib.Nat.{not-suc-le-zero}
+use native.Mathlib.Omega.{arith}
+use lib.Dec.{T}
+use lib.ListN.{length, take, getD}
+use Rattle.rules.specs.declared.units.Milliseconds.{Milliseconds}
+use Rattle.rules.specs.declared.reading.Reading.{Reading}
+use Rattle.rules.specs.declared.states.State.{State}
+use Rattle.rules.specs.declared.states.State.the-variants.{Unpowered, Dormant, Operational, Maintenance}
+use Rattle.rules.specs.declared.states.TestResult.the-variants.{Passed, Failed}
+use Rattle.rules.specs.declared.calls.Request.{Request}
+use Rattle.rules.specs.declared.calls.Request.the-variants.{Dormant as ToDormant, Operational as ToOperational, Maintenance as ToMaintenance}
+use Rattle.rules.specs.declared.calls.Event.{Event}
+use Rattle.rules.specs.declared.calls.Event.the-variants.{Measurement, PowerOn, PowerLoss, ContactorCommand, StateRequest, BattleOverride, ClearLongTerm}
+use Rattle.rules.specs.declared.tracking.Watch.{Watch}
+use Rattle.rules.specs.declared.stores.Stores.{Stores}
+use Rattle.rules.specs.declared.battery.Control.{Control}
+use Rattle.rules.specs.declared.battery.Tally.{Tally}
+use Rattle.rules.specs.declared.battery.Record.{Record}
+use Rattle.rules.specs.Quantities.{isType, missionTime}
+use Rattle.rules.specs.Calls.{timeOf}
+use Rattle.rules.specs.Numbers.{testNumber}
+use Rattle.rules.specs.States.{requested, isChange, entersDormant}
+use Rattle.rules.specs.Test.{plausible, failedMask}
+use Rattle.rules.specs.Protections.{protection}
+use Rattle.rules.specs.Trips.{Measured, time, isTripped}
+use Rattle.rules.specs.Ledger.{Ledger, atFirst, refused, accept, ifAccepted, enter, Accepted, entered, testOf, failedMaskOf, failedCountOf, isTrippedOn}
+use Rattle.rules.specs.Stores.{since, isClear, isBorder, tripsOf, entriesOf, longTerm, shortTerm, lastOf, inRisingNumber}
+use Rattle.rules.specs.Accounts.{charged, discharged, positiveTimes, negativeTimes}
+use Rattle.rules.specs.Shown.{keptOf, longEntries, shortEntries}
+use Rattle.rules.specs.Soundness.{Sound}
+use Rattle.rules.proofs.Apart.{apart}
+use Rattle.rules.proofs.Mask.{mask-13-bits}
+use Rattle.step.specs.Fresh.{noWatch, noTally, controlIn, noFaults, noneRecent, freshRecord}
+use Rattle.step.specs.Sound.{at, sound}
+use Rattle.step.specs.Refusal.{refusal}
+use Rattle.step.specs.Track.{trackOne, trackAll, observe}
+use Rattle.step.specs.Push.{pushAll}
+use Rattle.step.specs.Charge.{inflow, outflow, charge}
+use Rattle.step.specs.Call.{measureLive, requestControl, advance, answer, call}
+use Rattle.step.proofs.Bools.{is-true, at-place}
+use Rattle.step.proofs.Tracking.{AllBy, Ordered, all-by-later, Tracks, tracks-none, tracks-next, tracks-by}
+use Rattle.step.proofs.Refusals.{by-table, InTime, in-time}
+use Rattle.step.proofs.Sounds.{sound-is}
+use Rattle.step.proofs.Lists.{take-kept, last-kept}
+use Rattle.step.proofs.Storing.{LongFits, ShortFits}
+use Rattle.step.proofs.Adding.{StoresFit, Added, added-all}
+use Rattle.step.proofs.Charging.{previousOf, inflow-is, outflow-is, flowed-is, accountTime, joins-bounded, positive-bounded, negative-bounded, plausible-current}
+
+-- ---- what the parts of the record show
+
+pub record ShowsControl (c : Control) (l : Ledger) : Type 0 where
+  pub state : c .state ≡ l .state
+  pub command : c .command ≡ l .command
+  pub override : c .overriding ≡ l .override
+
+pub record ShowsWatch (battery : ℕ) (w : Watch) (taken : List Measured) : Type 0 where
+  pub test : testNumber (w .test) ≡ testOf taken
+  pub mask : w .mask ≡ failedMaskOf taken
+  pub failed : w .failed ≡ failedCountOf taken
+  pub previous : w .previous ≡ previousOf taken
+  pub protections : (number : ℕ) → number < 8 → Tracks (protection battery number) (at (w .protections) number) taken
+
+-- an account is at most 2,000,000 × the bound, a time
+pub record ShowsTally (n : Tally) (commands bound : ℕ) (past : List Accepted) : Type 0 where
+  pub counted : n .commands ≡ commands
+  pub charged : n .charged .0 ≡ charged past
+  pub discharged : n .discharged .0 ≡ discharged past
+  pub chargedBy : n .charged .0 ≤ 2_000_000 * bound
+  pub dischargedBy : n .discharged .0 ≤ 2_000_000 * bound
+
+pub record ShowsStores (battery : ℕ) (s : Stores) (past : List Accepted) : Type 0 where
+  pub long : longEntries (s .faults) ≡ longTerm battery past
+  pub short : shortEntries (s .recent) ≡ shortTerm battery past
+  pub fits : StoresFit s
+
+-- what the ledger's times are
+pub record Timed (last : ℕ) (taken : List Measured) : Type 0 where
+  pub by : AllBy last taken
+  pub ordered : Ordered taken
+  pub mission : last ≤ missionTime
+
+pub record Shows (r : Record) (l : Ledger) (past : List Accepted) : Type 0 where
+  pub battery : T (isType (r .live .battery))
+  pub last : r .live .last ≡ l .last
+  pub control : ShowsControl (r .live .control) l
+  pub watch : ShowsWatch (r .live .battery) (r .live .watch) (l .measured)
+  pub tally : ShowsTally (r .live .tally) (l .commands) (accountTime (l .last .0) (l .measured)) past
+  pub stores : ShowsStores (r .live .battery) (r .stores) past
+  pub timed : Timed (l .last .0) (l .measured)
+
+-- ---- a session that has just begun or ended
+
+pub watch-none : (battery : ℕ) → ShowsWatch battery noWatch []
+watch-none battery = record {
+  test = refl;
+  mask = refl;
+  failed = refl;
+  previous = refl;
+  protections = λ number h. subst (λ s. Tracks (protection battery number) s []) (sym (all-clear number h)) (tracks-none (protection battery number));
+}
+  where
+    all-clear : (number : ℕ) → number < 8 → at (noWatch .protections) number ≡ Rattle.step.specs.Fresh.clearState
+    all-clear number h = lib.ListN.getD-replicate 8 number _ _ h
+
+pub long-none : LongFits noFaults
+long-none = record { times = refl; protections = refl; values = refl; count = omega arith; numbers = λ place h. absurd (not-suc-le-zero h) }
+
+pub short-none : ShortFits noneRecent
+short-none = record { times = refl; protections = refl; values = refl; releases = refl; count = omega arith; numbers = λ place h. absurd (not-suc-le-zero h) }
+
+pub shows-fresh : (battery : ℕ) → T (isType battery) → Shows (freshRecord battery) atFirst []
+unfolding longEntries shortEntries
+shows-fresh battery h = record {
+  battery = h;
+  last = refl;
+  control = record { state = refl; command = refl; override = refl };
+  watch = watch-none battery;
+  tally = record { counted = refl; charged = refl; discharged = refl; chargedBy = omega arith; dischargedBy = omega arith };
+  stores = record { long = refl; short = refl; fits = record { long = long-none; short = short-none } };
+  timed = record { by = tt; ordered = tt; mission = omega arith };
+}

@@ -3,14 +3,16 @@
 use Prim.Native.Nat.{ℕ, _<_}
 use mathlib.Core.Path.{_≡_}
 use mathlib.Core.Logic.{_↔_, _≢_}
-use mathlib.Core.List.{List}
+use mathlib.Core.Bool.{cond}
+use mathlib.Core.List.{List, []}
 use lib.Dec.{T}
 use Rattle.rules.specs.declared.states.Contactor.{Contactor}
+use Rattle.rules.specs.declared.states.Contactor.the-variants.{Open}
 use Rattle.rules.specs.declared.calls.Event.{Event}
 use Rattle.rules.specs.declared.battery.Record.{Record}
 use Rattle.rules.specs.Quantities.{isType}
 use Rattle.rules.specs.Numbers.{stateNumber, commandNumber, overrideNumber, testNumber, contactorNumber}
-use Rattle.rules.specs.Refusals.{refusal, CallAnswer}
+use Rattle.rules.specs.Refusals.{firstOf, freshChecks, refusal, CallAnswer}
 use Rattle.rules.specs.Ledger.{Ledger, ledger, refusals, accepted, testOf, failedMaskOf, failedCountOf, TrippedOn}
 use Rattle.rules.specs.Stores.{longTerm, shortTerm}
 use Rattle.rules.specs.Accounts.{charged, discharged}
@@ -92,6 +94,17 @@ AnyTwoLists engine =
     → (answers₁ answers₂ : List ℕ) (after₁ after₂ : Record) (contactor₁ contactor₂ : Contactor)
     → engine battery calls₁ answers₁ after₁ contactor₁ → engine battery calls₂ answers₂ after₂ contactor₂
     → TwoRuns battery calls₁ calls₂ answers₁ answers₂ after₁ after₂ contactor₁ contactor₂
+
+-- ---- demand 1, for a fresh record of any type number
+
+-- the type that the record has: type 1 beside number 1
+abbrev pub typeOr1 : ℕ → ℕ
+typeOr1 battery = cond (isType battery) battery 1
+
+pub record FreshOf (battery answer : ℕ) (start : Record) : Type 0 where
+  pub number : answer ≡ firstOf (freshChecks battery)
+  -- "A fresh record has a type, is Unpowered (0), last time 0, everything empty.": what is owed after no call
+  pub empty : AfterList (typeOr1 battery) [] [] start Open
 
 -- ---- demand 1, for a call: on any record, reached by a list or not
 

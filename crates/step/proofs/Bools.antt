@@ -1,7 +1,7 @@
 -- Small laws of Bool that the other files cite. Assumes nothing.
 use mathlib.Core.Path.{_≡_, refl, sym, subst}
 use mathlib.Core.Logic.{_↔_}
-use mathlib.Core.Bool.{Bool, true, false, not, _&&_, _||_}
+use mathlib.Core.Bool.{Bool, true, false, not, _&&_, _||_, true≢false}
 use mathlib.Core.List.{List, [], _∷_}
 use Prim.Native.Nat.{ℕ, zero, suc, _<_, zero-le, suc-le-suc}
 use native.Mathlib.Nat.{le-of-suc-le-suc, not-suc-le-zero}
@@ -56,3 +56,16 @@ all-places (suc n) test = step n test (all-places n (λ k. test (suc k)))
         to : T (all (listOf (suc n) test)) → (i : ℕ) → i < suc n → T (test i)
         to h zero k = here .0 h .0
         to h (suc i) k = rest .0 (here .0 h .1) i (le-of-suc-le-suc k)
+
+-- where a test of every place fails, it fails at a place
+pub some-place : (n : ℕ) (test : ℕ → Bool) → all (listOf n test) ≡ false → (i : ℕ) × (i < n) × (test i ≡ false)
+some-place zero test e = absurd (true≢false e)
+some-place (suc n) test e = go (test zero) refl (some-place n (λ k. test (suc k)))
+  where
+    go : (b : Bool) → test zero ≡ b → (all (listOf n (λ k. test (suc k))) ≡ false → (i : ℕ) × (i < n) × (test (suc i) ≡ false))
+        → (i : ℕ) × (i < suc n) × (test i ≡ false)
+    go false h later = (zero, suc-le-suc zero-le, h)
+    go true h later =
+        let rest : all (listOf n (λ k. test (suc k))) ≡ false = rw h at e in
+        let found = later rest in
+        (suc (found .0), suc-le-suc (found .1), found .2)

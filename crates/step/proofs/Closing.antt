@@ -1,7 +1,7 @@
 -- The contactor of a record is closed exactly when the rule on the ledger that it shows says so. Assumes nothing.
 use mathlib.Core.Path.{_≡_, refl, sym, ap, ap₂, subst, _∙_}
 use mathlib.Core.Logic.{_↔_, _⊎_, inl, inr, _≢_}
-use mathlib.Core.Bool.{Bool, true, false, not, cond, _&&_, _||_}
+use mathlib.Core.Bool.{Bool, true, false, not, cond, _&&_, _||_, true≢false, false≢true}
 use mathlib.Core.List.{List, [], _∷_}
 use Prim.Native.Nat.{ℕ, zero, suc, _≤_, _<_}
 use native.Mathlib.Omega.{arith}
@@ -23,7 +23,7 @@ use Rattle.rules.specs.Contactor.{StateAndCommand, PermitsClosing, InForce, All
 use Rattle.rules.proofs.Decide.{is-tripped}
 use Rattle.step.specs.Sound.{at, all, listOf}
 use Rattle.step.specs.Close.{hasPassed, ready, lifted, closes, contactor}
-use Rattle.step.proofs.Bools.{and-iff, is-true, all-places}
+use Rattle.step.proofs.Bools.{and-iff, is-true, all-places, some-place}
 use Rattle.step.proofs.Shows.{Shows}
 
 -- ---- test, state and command
@@ -58,7 +58,7 @@ lift-is false o f = (λ h t. absurd t, λ g. tt)
 lift-is true o f = (λ h t. and-iff o f .0 h, λ g. and-iff o f .1 (g tt))
 
 module _ (battery : ℕ) (states : List ProtectionState) (l : Ledger)
-  (shown : (i : ℕ) → i < 8 → at states i .tripped ≡ isTrippedOn battery l i) where
+    (shown : (i : ℕ) → i < 8 → at states i .tripped ≡ isTrippedOn battery l i) where
   tripped-is : (i : ℕ) → i < 8 → T (at states i .tripped) ↔ TrippedOn battery l i
   tripped-is i h = rw (shown i h) (is-tripped (protection battery i) (l .measured))
 
@@ -89,6 +89,41 @@ module _ (battery : ℕ) (states : List ProtectionState) (l : Ledger)
       from : (AllLiftable battery l × InForce l) ⊎ NoneTripped battery l → EachLifted (l .override)
       from (inl (all, on)) = λ i k t. (is-true (l .override) .1 on, all i k t)
       from (inr none) = λ i k t. absurd (none i k t)
+
+  -- override makes a difference exactly where something is tripped, and all of it liftable
+  lifts-more : (lifted battery true states ≢ lifted battery false states) ↔ (SomeTripped battery l × AllLiftable battery l)
+  lifts-more = (to (lifted battery true states) refl (lifted battery false states) refl, from)
+    where
+      clear : (i : ℕ) → Bool
+      clear i = not (at states i .tripped) || (false && protection battery i .liftable)
+
+      was-tripped : (t f : Bool) → (not t || (false && f)) ≡ false → T t
+      was-tripped true f e = tt
+      was-tripped false f e = absurd (true≢false e)
+
+      to : (x : Bool) → lifted battery true states ≡ x → (y : Bool) → lifted battery false states ≡ y
+          → lifted battery true states ≢ lifted battery false states → SomeTripped battery l × AllLiftable battery l
+      to true e true f n = absurd (n (e ∙ sym f))
+      to false e false f n = absurd (n (e ∙ sym f))
+      to false e true f n =
+          absurd (subst T e (lifted-is true .1 (λ i k t. absurd (lifted-is false .0 (subst T (sym f) tt) i k t .0))))
+      to true e false f n =
+          let found = some-place 8 clear f in
+          let i = found .0 in (
+            (i, found .1, tripped-is i (found .1) .0 (was-tripped (at states i .tripped) (protection battery i .liftable) (found .2))),
+            λ i k t. lifted-is true .0 (subst T (sym e) tt) i k t .1,
+          )
+
+      from : SomeTripped battery l × AllLiftable battery l → lifted battery true states ≢ lifted battery false states
+      from ((i, k, t), every) e =
+          lifted-is false .0 (subst T e (lifted-is true .1 (λ j h u. (tt, every j h u)))) i k t .0
+
+  pub lifted-differ : (o p : Bool) → (lifted battery o states ≢ lifted battery p states) ↔ ((o ≢ p) × SomeTripped battery l × AllLiftable battery l)
+  lifted-differ true true = (λ n. absurd (n refl), λ q. absurd (q .0 refl))
+  lifted-differ false false = (λ n. absurd (n refl), λ q. absurd (q .0 refl))
+  lifted-differ true false = (λ n. (true≢false, lifts-more .0 n .0, lifts-more .0 n .1), λ q. lifts-more .1 (q .1, q .2))
+  lifted-differ false true =
+      (λ n. (false≢true, lifts-more .0 (λ e. n (sym e)) .0, lifts-more .0 (λ e. n (sym e)) .1), λ q e. lifts-more .1 (q .1, q .2) (sym e))
 
 -- ---- closed
 
@@ -144,3 +179,51 @@ module _ (r : Record) (l : Ledger) (past : List Accepted) (k : Shows r l past) w
 
       from : Closed (r .live .battery) l → contactorNumber (contactor r) ≡ 1
       from c = contactor-number (permits && lift) .1 (and-iff permits lift .1 (permits-is .1 (c .permits), rule .1 (c .protections)))
+
+-- ---- two contactors
+
+differ-and : (p x y : Bool) → (contactorNumber (cond (p && x) IsClosed IsOpen) ≢ contactorNumber (cond (p && y) IsClosed IsOpen)) ↔ (T p × (x ≢ y))
+differ-and false x y = (λ n. absurd (n refl), λ q. absurd (q .0))
+differ-and true true true = (λ n. absurd (n refl), λ q. absurd (q .1 refl))
+differ-and true false false = (λ n. absurd (n refl), λ q. absurd (q .1 refl))
+differ-and true true false = (λ n. (tt, true≢false), λ q e. omega arith)
+differ-and true false true = (λ n. (tt, false≢true), λ q e. omega arith)
+
+-- a record with another setting of override
+abbrev pub overridden : Bool → Live → Live
+overridden on l = record {
+  battery = l .battery;
+  last = l .last;
+  control = record { state = l .control .state; command = l .control .command; overriding = on };
+  watch = l .watch;
+  tally = l .tally;
+}
+
+pub contactors-differ : (r q : Record) (l m : Ledger) (past : List Accepted) → Shows r l past → q .live ≡ overridden (m .override) (r .live)
+    → (contactorNumber (contactor r) ≢ contactorNumber (contactor q)) ↔ ContactorsDiffer (r .live .battery) l m
+unfolding closes
+contactors-differ r q l m past k e = (to, from)
+  where
+    states : List ProtectionState
+    states = r .live .watch .protections
+
+    lift : Bool → Bool
+    lift on = lifted (r .live .battery) on states
+
+    permit : Bool
+    permit = permits r l past k
+
+    numbers : (contactorNumber (contactor r) ≢ contactorNumber (contactor q)) ↔ (T permit × (lift (r .live .control .overriding) ≢ lift (m .override)))
+    numbers = rw e (differ-and permit (lift (r .live .control .overriding)) (lift (m .override)))
+
+    lifts : (lift (l .override) ≢ lift (m .override)) ↔ ((l .override ≢ m .override) × SomeTripped (r .live .battery) l × AllLiftable (r .live .battery) l)
+    lifts = lifted-differ (r .live .battery) states l (shown r l past k) (l .override) (m .override)
+
+    to : contactorNumber (contactor r) ≢ contactorNumber (contactor q) → ContactorsDiffer (r .live .battery) l m
+    to n =
+        let (p, d) = numbers .0 n in
+        let (one, some, every) = lifts .0 (rw (k .control .override) at d) in
+        record { justOne = one; permits = permits-is r l past k .0 p; some = some; allLiftable = every }
+
+    from : ContactorsDiffer (r .live .battery) l m → contactorNumber (contactor r) ≢ contactorNumber (contactor q)
+    from d = numbers .1 (permits-is r l past k .1 (d .permits), rw (k .control .override) (lifts .1 (d .justOne, d .some, d .allLiftable)))

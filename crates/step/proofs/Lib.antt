@@ -10,3 +10,5 @@ pub mod Shows
 pub mod Accepting
 pub mod Runs
 pub mod Closing
+pub mod Overrides
+pub mod Claims

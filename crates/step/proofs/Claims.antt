@@ -1,0 +1,195 @@
+-- The claims, of the step: instances at the fresh record of what Runs, Closing and Overrides prove of any record. Assumes nothing.
+use mathlib.Core.Path.{_≡_, refl, sym, ap, ap₂, subst, _∙_}
+use mathlib.Core.Logic.{_↔_, _≢_}
+use mathlib.Core.Bool.{Bool, true, false, cond, _&&_}
+use mathlib.Core.List.{List, [], _∷_}
+use Prim.Native.Nat.{ℕ, zero, suc, _<_}
+use native.Mathlib.Omega.{arith}
+use lib.Dec.{T, leb}
+use Rattle.rules.specs.declared.states.Contactor.{Contactor}
+use Rattle.rules.specs.declared.calls.Event.{Event}
+use Rattle.rules.specs.declared.battery.Live.{Live}
+use Rattle.rules.specs.declared.battery.Record.{Record}
+use Rattle.rules.specs.Quantities.{isType}
+use Rattle.rules.specs.Numbers.{stateNumber, commandNumber, overrideNumber, testNumber, contactorNumber}
+use Rattle.rules.specs.Refusals.{CallAnswer, CallAnswer.unsound}
+use Rattle.rules.specs.Refusals.{refusal as refusalByTable}
+use Rattle.rules.specs.Protections.{protection}
+use Rattle.rules.specs.Ledger.{Ledger, ledger, atFirst, accepted, Accepted, isTrippedOn}
+use Rattle.rules.specs.Stores.{longTerm, shortTerm}
+use Rattle.rules.specs.Contactor.{Closed, ContactorsDiffer}
+use Rattle.rules.specs.Alike.{Alike}
+use Rattle.rules.specs.Shown.{keptOf, longEntries, shortEntries}
+use Rattle.rules.specs.Soundness.{Sound}
+use Rattle.rules.specs.Claims.{Engine, AfterList, AfterEveryList, TwoRuns, AnyTwoLists, typeOr1, FreshOf, Refused, OnEveryRecord}
+use Rattle.rules.proofs.Decide.{is-tripped}
+use Rattle.step.specs.Fresh.{freshRecord, fresh}
+use Rattle.step.specs.Sound.{sound}
+use Rattle.step.specs.Refusal.{refusal, refusalLive}
+use Rattle.step.specs.Close.{closes, contactor}
+use Rattle.step.specs.Call.{advance, answer, call, run, answers}
+use Rattle.step.proofs.Bools.{and-iff, is-true, same-test}
+use Rattle.step.proofs.Refusals.{by-table, table-listed, table-not-5}
+use Rattle.step.proofs.Sounds.{sound-is, type-is}
+use Rattle.step.proofs.Shows.{Shows, shows-fresh}
+use Rattle.step.proofs.Runs.{shows-sound, shows-run, answers-are, battery-run}
+use Rattle.step.proofs.Closing.{overridden, closed-is, contactors-differ}
+use Rattle.step.proofs.Overrides.{erase, alike-run, alike-answers}
+
+-- the runs of the step
+abbrev pub StepRuns : Engine
+StepRuns battery calls given after closing =
+    (given ≡ answers (fresh battery .start) calls)
+    × (after ≡ run (fresh battery .start) calls)
+    × (closing ≡ contactor (run (fresh battery .start) calls))
+
+-- ---- after every list
+
+module _ (battery : ℕ) (type : T (isType battery)) (calls : List Event) where
+  abbrev last : Record
+  last = run (freshRecord battery) calls
+
+  pub shown : Shows last (ledger calls) (accepted calls)
+  shown = shows-run (freshRecord battery) atFirst [] calls (shows-fresh battery type)
+
+  same-type : last .live .battery ≡ battery
+  same-type = battery-run (freshRecord battery) calls
+
+  shown-tripped : (number : ℕ) → number < 8 → keptOf last number .tripped ≡ isTrippedOn battery (ledger calls) number
+  shown-tripped number h =
+      shown .watch .protections number h .tripped ∙ ap (λ (b : ℕ). isTrippedOn b (ledger calls) number) same-type
+
+  pub after-list : AfterList battery calls (answers (freshRecord battery) calls) last (contactor last)
+  after-list = record {
+    answered = answers-are (freshRecord battery) atFirst [] calls (shows-fresh battery type);
+    batteryType = same-type;
+    state = ap stateNumber (shown .control .state);
+    command = ap commandNumber (shown .control .command);
+    override = ap overrideNumber (shown .control .override);
+    last = shown .last;
+    commands = shown .tally .counted;
+    test = shown .watch .test;
+    failedMask = shown .watch .mask;
+    failedCount = shown .watch .failed;
+    tripped = λ number h. rw (shown-tripped number h) (is-tripped (protection battery number) (ledger calls .measured));
+    charged = shown .tally .charged;
+    discharged = shown .tally .discharged;
+    longTerm = shown .stores .long ∙ ap (λ (b : ℕ). longTerm b (accepted calls)) same-type;
+    shortTerm = shown .stores .short ∙ ap (λ (b : ℕ). shortTerm b (accepted calls)) same-type;
+    sound = shows-sound last (ledger calls) (accepted calls) shown;
+    closed = subst (λ (b : ℕ). (contactorNumber (contactor last) ≡ 1) ↔ Closed b (ledger calls)) same-type
+        (closed-is last (ledger calls) (accepted calls) shown);
+  }
+
+-- ---- the fresh record of a type number
+
+abbrev known : ℕ → Bool
+known battery = leb 1 battery && leb battery 3
+
+same-known : (battery : ℕ) → known battery ≡ isType battery
+same-known battery = same-test (known battery) (isType battery) (and-iff (leb 1 battery) (leb battery 3)) (swap (type-is battery))
+  where
+    swap : {A B : Type 0} → A ↔ B → B ↔ A
+    swap e = (e .1, e .0)
+
+pub fresh-known : (battery : ℕ) → T (isType battery) → fresh battery .start ≡ freshRecord battery
+fresh-known battery h = rw (same-known battery, is-true (isType battery) .0 h) refl
+
+pub fresh-of : (battery : ℕ) → FreshOf battery (fresh battery .number) (fresh battery .start)
+unfolding closes
+fresh-of battery = go (isType battery) refl
+  where
+    go : (b : Bool) → isType battery ≡ b → FreshOf battery (fresh battery .number) (fresh battery .start)
+    go true e = rw (same-known battery, e) (record { number = rw e refl; empty = rw e (after-list battery (is-true (isType battery) .1 e) []) })
+    go false e = rw (same-known battery, e) (record { number = rw e refl; empty = rw e (after-list 1 tt []) })
+
+-- ---- the claims
+
+pub after-every-list : AfterEveryList StepRuns
+after-every-list battery h calls given after closing (g, a, c) = rw (g, a, c, fresh-known battery h) (after-list battery h calls)
+
+module _ (battery : ℕ) (type : T (isType battery)) (calls₁ calls₂ : List Event) (alike : Alike calls₁ calls₂) where
+  abbrev r : Record
+  r = run (freshRecord battery) calls₁
+
+  abbrev q : Record
+  q = run (freshRecord battery) calls₂
+
+  same-but : erase r ≡ erase q
+  same-but = alike-run (freshRecord battery) (freshRecord battery) alike refl
+
+  -- the second run's live part, from the first's
+  other : q .live ≡ overridden (ledger calls₂ .override) (r .live)
+  other =
+      ap (λ (x : Record). overridden (q .live .control .overriding) (x .live)) (sym same-but)
+      ∙ ap (λ (on : Bool). overridden on (r .live)) (shown battery type calls₂ .control .override)
+
+  first : AfterList battery calls₁ (answers (freshRecord battery) calls₁) r (contactor r)
+  first = after-list battery type calls₁
+
+  second : AfterList battery calls₂ (answers (freshRecord battery) calls₂) q (contactor q)
+  second = after-list battery type calls₂
+
+  pub two-runs : TwoRuns battery calls₁ calls₂ (answers (freshRecord battery) calls₁) (answers (freshRecord battery) calls₂) r q (contactor r) (contactor q)
+  two-runs = record {
+    sameAnswers = alike-answers (freshRecord battery) (freshRecord battery) alike refl;
+    ledgerAnswers₁ = first .answered;
+    ledgerAnswers₂ = second .answered;
+    state = ap (λ (x : Record). stateNumber (x .live .control .state)) same-but;
+    command = ap (λ (x : Record). commandNumber (x .live .control .command)) same-but;
+    tripped = λ number h. ap (λ (x : Record). keptOf x number .tripped) same-but;
+    test = ap (λ (x : Record). testNumber (x .live .watch .test)) same-but;
+    failedMask = ap (λ (x : Record). x .live .watch .mask) same-but;
+    failedCount = ap (λ (x : Record). x .live .watch .failed) same-but;
+    charged = ap (λ (x : Record). x .live .tally .charged) same-but;
+    discharged = ap (λ (x : Record). x .live .tally .discharged) same-but;
+    commands = ap (λ (x : Record). x .live .tally .commands) same-but;
+    longTerm = ap (λ (x : Record). longEntries (x .stores .faults)) same-but;
+    shortTerm = ap (λ (x : Record). shortEntries (x .stores .recent)) same-but;
+    laidDown₁ = first;
+    laidDown₂ = second;
+    contactorsDiffer = subst (λ (b : ℕ). (contactorNumber (contactor r) ≢ contactorNumber (contactor q)) ↔ ContactorsDiffer b (ledger calls₁) (ledger calls₂))
+        (battery-run (freshRecord battery) calls₁)
+        (contactors-differ r q (ledger calls₁) (ledger calls₂) (accepted calls₁) (shown battery type calls₁) other);
+    closed₁ = first .closed;
+    closed₂ = second .closed;
+  }
+
+pub any-two-lists : AnyTwoLists StepRuns
+any-two-lists battery h calls₁ calls₂ alike given₁ given₂ after₁ after₂ closing₁ closing₂ (g₁, a₁, c₁) (g₂, a₂, c₂) =
+    rw (g₁, a₁, c₁, g₂, a₂, c₂, fresh-known battery h) (two-runs battery h calls₁ calls₂ alike)
+
+-- ---- one call, on any record
+
+abbrev pub StepCalls : Record → Event → ℕ → Record → Type 0
+StepCalls before e given after = (given ≡ call before e .number) × (after ≡ call before e .after)
+
+module _ (before : Record) (e : Event) where
+  number-of : (n : ℕ) → answer n (advance before e) before .number ≡ n
+  number-of zero = refl
+  number-of (suc n) = refl
+
+  kept : (n : ℕ) → (n ≡ 0 → ⊥) → answer n (advance before e) before .after ≡ before
+  kept zero h = absurd (h refl)
+  kept (suc n) h = refl
+
+  -- the refusal of a sound record, and of one that isn't
+  of-sound : (b : Bool) → sound before ≡ b → Refused before e (cond b (refusalLive (before .live) e) 5) (answer (cond b (refusalLive (before .live) e) 5) (advance before e) before .after)
+  of-sound true s = record {
+    listed = rw (by-table (before .live) e) (table-listed _ _ _ e);
+    unsound = (λ h. absurd (table-not-5 _ _ _ e (sym (by-table (before .live) e) ∙ h)), λ h. absurd (h (sound-is before .0 (is-true (sound before) .1 s))));
+    byTable = λ h. by-table (before .live) e;
+    unchanged = λ h. kept (refusalLive (before .live) e) h;
+  }
+  of-sound false s = record {
+    listed = unsound;
+    unsound = (λ h k. subst T s (sound-is before .1 k), λ h. refl);
+    byTable = λ h. absurd (subst T s (sound-is before .1 h));
+    unchanged = λ h. refl;
+  }
+
+  pub refused : Refused before e (call before e .number) (call before e .after)
+  refused = rw (number-of (refusal before e)) (of-sound (sound before) refl)
+
+pub on-every-record : OnEveryRecord StepCalls
+on-every-record before e given after (g, a) = rw (g, a) (refused before e)

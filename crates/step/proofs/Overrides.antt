@@ -1,0 +1,114 @@
+-- Records that are equal but for override stay so through every call, and answer alike, whatever the on or off values of override calls.
+-- Assumes nothing.
+use mathlib.Core.Path.{_≡_, refl, sym, ap, ap₂, subst, _∙_}
+use mathlib.Core.Bool.{Bool, true, false}
+use mathlib.Core.List.{List, [], _∷_}
+use Prim.Native.Nat.{ℕ, zero, suc}
+use Rattle.rules.specs.declared.units.Milliseconds.{Milliseconds}
+use Rattle.rules.specs.declared.states.State.{State}
+use Rattle.rules.specs.declared.states.State.the-variants.{Unpowered, Dormant, Operational, Maintenance}
+use Rattle.rules.specs.declared.calls.Request.{Request}
+use Rattle.rules.specs.declared.calls.Request.the-variants.{Dormant as ToDormant, Operational as ToOperational, Maintenance as ToMaintenance}
+use Rattle.rules.specs.declared.calls.Event.{Event}
+use Rattle.rules.specs.declared.calls.Event.the-variants.{Measurement, PowerOn, PowerLoss, ContactorCommand, StateRequest, BattleOverride, ClearLongTerm}
+use Rattle.rules.specs.declared.battery.Control.{Control}
+use Rattle.rules.specs.declared.battery.Record.{Record}
+use Rattle.rules.specs.Alike.{Alike, none, same, switched}
+use Rattle.step.specs.Sound.{sound, soundLive}
+use Rattle.step.specs.Refusal.{refusal, refusalLive}
+use Rattle.step.specs.Call.{requestControl, advanceLive, advanceStores, advance, answer, call, run, answers}
+use Rattle.step.proofs.Closing.{overridden}
+
+-- the record as if override didn't exist
+abbrev pub erase : Record → Record
+erase r = record { live = overridden false (r .live); stores = r .stores }
+
+-- ---- an accepted call
+
+off : Control → Control
+off c = record { state = c .state; command = c .command; overriding = false }
+
+request-off : (q : Request) (s : State) (c : Control) → off (requestControl q s c) ≡ off (requestControl q s (off c))
+unfolding off
+request-off ToDormant Unpowered c = refl
+request-off ToDormant Dormant c = refl
+request-off ToDormant Operational c = refl
+request-off ToDormant Maintenance c = refl
+request-off ToOperational Unpowered c = refl
+request-off ToOperational Dormant c = refl
+request-off ToOperational Operational c = refl
+request-off ToOperational Maintenance c = refl
+request-off ToMaintenance Unpowered c = refl
+request-off ToMaintenance Dormant c = refl
+request-off ToMaintenance Operational c = refl
+request-off ToMaintenance Maintenance c = refl
+
+erase-advance : (r : Record) (e : Event) → erase (advance r e) ≡ erase (advance (erase r) e)
+unfolding off
+erase-advance r (Measurement t m) = refl
+erase-advance r (PowerOn t) = refl
+erase-advance r (PowerLoss t) = refl
+erase-advance r (ContactorCommand t c) = refl
+erase-advance r (StateRequest t q) = ap (λ (c : Control). record {
+  live = record { battery = r .live .battery; last = t; control = c; watch = r .live .watch; tally = r .live .tally };
+  stores = r .stores;
+}) (request-off q (r .live .control .state) (r .live .control))
+erase-advance r (BattleOverride t on) = refl
+erase-advance r (ClearLongTerm t) = refl
+
+erase-answer : (n : ℕ) (a b r q : Record) → erase a ≡ erase b → erase r ≡ erase q → erase (answer n a r .after) ≡ erase (answer n b q .after)
+erase-answer zero a b r q h k = h
+erase-answer (suc n) a b r q h k = k
+
+number-answer : (n : ℕ) (a b r q : Record) → answer n a r .number ≡ answer n b q .number
+number-answer zero a b r q = refl
+number-answer (suc n) a b r q = refl
+
+-- refusal doesn't look at override
+refusal-erase : (r : Record) (e : Event) → refusal r e ≡ refusal (erase r) e
+unfolding soundLive refusalLive
+refusal-erase r e = refl
+
+-- ---- one call
+
+after-erase : (r : Record) (e : Event) → erase (call r e .after) ≡ erase (call (erase r) e .after)
+after-erase r e = rw (← refusal-erase r e) (erase-answer (refusal r e) (advance r e) (advance (erase r) e) r (erase r) (erase-advance r e) refl)
+
+number-erase : (r : Record) (e : Event) → call r e .number ≡ call (erase r) e .number
+number-erase r e = rw (← refusal-erase r e) (number-answer (refusal r e) (advance r e) (advance (erase r) e) r (erase r))
+
+pub after-same : (r q : Record) (e : Event) → erase r ≡ erase q → erase (call r e .after) ≡ erase (call q e .after)
+after-same r q e h = after-erase r e ∙ ap (λ (x : Record). erase (call x e .after)) h ∙ sym (after-erase q e)
+
+pub number-same : (r q : Record) (e : Event) → erase r ≡ erase q → call r e .number ≡ call q e .number
+number-same r q e h = number-erase r e ∙ ap (λ (x : Record). call x e .number) h ∙ sym (number-erase q e)
+
+-- ---- an override call with either value, on one record
+
+refusal-switch : (r : Record) (t : Milliseconds) (x y : Bool) → refusal r (BattleOverride t x) ≡ refusal r (BattleOverride t y)
+unfolding refusalLive
+refusal-switch r t x y = refl
+
+after-switch : (r : Record) (t : Milliseconds) (x y : Bool) → erase (call r (BattleOverride t x) .after) ≡ erase (call r (BattleOverride t y) .after)
+after-switch r t x y = rw (refusal-switch r t x y)
+    (erase-answer (refusal r (BattleOverride t y)) (advance r (BattleOverride t x)) (advance r (BattleOverride t y)) r r refl refl)
+
+number-switch : (r : Record) (t : Milliseconds) (x y : Bool) → call r (BattleOverride t x) .number ≡ call r (BattleOverride t y) .number
+number-switch r t x y = rw (refusal-switch r t x y)
+    (number-answer (refusal r (BattleOverride t y)) (advance r (BattleOverride t x)) (advance r (BattleOverride t y)) r r)
+
+-- ---- two lists alike, from two records equal but for override
+
+pub alike-run : {a b : List Event} (r q : Record) → Alike a b → erase r ≡ erase q → erase (run r a) ≡ erase (run q b)
+alike-run r q none h = h
+alike-run r q (same e l) h = alike-run (call r e .after) (call q e .after) l (after-same r q e h)
+alike-run r q (switched t x y l) h =
+    alike-run (call r (BattleOverride t x) .after) (call q (BattleOverride t y) .after) l (after-same r q (BattleOverride t x) h ∙ after-switch q t x y)
+
+pub alike-answers : {a b : List Event} (r q : Record) → Alike a b → erase r ≡ erase q → answers r a ≡ answers q b
+alike-answers r q none h = refl
+alike-answers r q (same e l) h =
+    ap₂ _∷_ (number-same r q e h) (alike-answers (call r e .after) (call q e .after) l (after-same r q e h))
+alike-answers r q (switched t x y l) h =
+    ap₂ _∷_ (number-same r q (BattleOverride t x) h ∙ number-switch q t x y)
+    (alike-answers (call r (BattleOverride t x) .after) (call q (BattleOverride t y) .after) l (after-same r q (BattleOverride t x) h ∙ after-switch q t x y))

@@ -92,6 +92,10 @@ same-known battery = same-test (known battery) (isType battery) (and-iff (leb 1 
     swap : {A B : Type 0} → A ↔ B → B ↔ A
     swap e = (e .1, e .0)
 
+-- the step's test of a type number
+by-type : (battery : ℕ) → fresh battery ≡ cond (known battery) (record { number = 0; start = freshRecord battery }) (record { number = 1; start = freshRecord 1 })
+by-type battery = refl
+
 pub fresh-known : (battery : ℕ) → T (isType battery) → fresh battery .start ≡ freshRecord battery
 fresh-known battery h = rw (same-known battery, is-true (isType battery) .0 h) refl
 

@@ -4,3 +4,4 @@ pub mod Each
 pub mod Mask
 pub mod Apart
 pub mod Extremes
+pub mod Injective

@@ -1,6 +1,6 @@
 -- No reading is both beyond and within, for any protection of any battery type; and which protections are liftable, as a mask.
 use mathlib.Core.Path.{_≡_, refl, _∙_}
-use mathlib.Core.Bool.{Bool, true, false, not, cond, _&&_}
+use mathlib.Core.Bool.{Bool, true, false, not, cond}
 use mathlib.Core.List.{map}
 use Prim.Native.Nat.{ℕ, _+_, _/_, _%_, _^_, _<_}
 use native.Mathlib.Nat.{le-add-right}
@@ -8,6 +8,7 @@ use lib.Dec.{T, le→leb, eqb}
 use lib.IntN.{ℤ, pos, negℤ}
 use lib.Signed.{ltZ, leZ, ltZ-yes, leZ-yes, <ℤ-≤ℤ-trans, clashℤ, ≤ℤ-refl}
 use lib.ListN.{getD, List·getD-map}
+use mir.Facts.{and-yes}
 use Rattle.rules.specs.declared.reading.Reading.{Reading}
 use Rattle.rules.specs.Quantities.{mA, dC, _<mA_, _<dC_, dischargeRating}
 use Rattle.rules.specs.Protections.{Protection, highest, lowest, hottest, coldest, spread, permitted, overvoltage, table, protection}
@@ -26,10 +27,6 @@ below beyond within figure order b w =
 -- ---- the rows
 abbrev Apart : Protection → Type 0
 Apart p = (r : Reading) → T (p .beyond r) → T (p .within r) → ⊥
-
-first-of : (a b : Bool) → T (a && b) → T a
-first-of true b h = tt
-first-of false b h = h
 
 -- -1,100,000 mA is past -D for either D
 past-rating : (b : Bool) → T (leZ (negℤ (pos 1_100_000)) (negℤ (pos (cond b 180_000 120_000))))
@@ -50,7 +47,7 @@ module _ (battery : ℕ) where
       (λ r. above (pos 3_650) (pos 3_500) (pos (highest r .0)) tt)
       and (λ r. below (pos 1_700) (pos 2_800) (pos (lowest r .0)) tt)
       and (λ r. above (pos 710) (pos 600) (hottest r .0) tt)
-      and (λ r b. below (pos 0) (pos 50) (coldest r .0) tt (first-of (coldest r <dC dC (pos 0)) (mA (pos 500) <mA r .current) b))
+      and (λ r b. below (pos 0) (pos 50) (coldest r .0) tt (and-yes (coldest r <dC dC (pos 0)) (mA (pos 500) <mA r .current) b .0))
       and (λ r. above (pos (permittedOf r + 2_000)) (pos (permittedOf r)) (r .current .0) (le→leb (permittedOf r) (permittedOf r + 2_000) (le-add-right (permittedOf r) 2_000)))
       and (λ r. below (negℤ (pos 1_100_000)) dischargeLimit (r .current .0) (past-rating (eqb battery 3)))
       and (λ r. below dischargeLimit dischargeLimit (r .current .0) (≤ℤ-refl dischargeLimit .le))

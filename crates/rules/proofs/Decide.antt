@@ -28,7 +28,7 @@ module _ (test : Reading → Bool) (d t : ℕ) (m : Measured) (taken : List Meas
   split zero s long = (span-head test m taken s, inl (le→leb _ _ long))
   split (suc first) s long = (span-head test m taken s, inr (first, span-less test m taken s, long))
 
-and-or : (a b c : Bool) {C : Type 0} → T c ↔ C → T (a && (b || c)) ↔ (T a × (T b ⊎ C))
+pub and-or : (a b c : Bool) {C : Type 0} → T c ↔ C → T (a && (b || c)) ↔ (T a × (T b ⊎ C))
 and-or true true c e = (λ h. (tt, inl tt), λ h. tt)
 and-or true false c e = (λ h. (tt, inr (e .0 h)), λ h. elim (h .1) [ inl x ↦ absurd x | inr x ↦ e .1 x ])
 and-or false b c e = (λ h. absurd h, λ h. h .0)

@@ -5,3 +5,5 @@ pub mod Mask
 pub mod Apart
 pub mod Extremes
 pub mod Injective
+pub mod Sessions
+pub mod Milder

@@ -1,0 +1,122 @@
+-- One list of measurements milder than another, frame by frame: the highest cell no higher, the current no lower. What the milder one
+-- trips the other trips too, for a protection that looks at these alone; and the milder one charges no less.
+use mathlib.Core.Path.{_≡_, sym, subst}
+use mathlib.Core.Logic.{inl, inr, Iff·rfl}
+use mathlib.Core.Bool.{Bool, true, false, cond, _&&_}
+use mathlib.Core.List.{List, _∷_, Forall₂, Forall₂·nil, Forall₂·cons}
+use Prim.Native.Nat.{ℕ, _+_, _-_, _≤_, zero-le}
+use native.Mathlib.Nat.{mul-le-mul-right, add-le-add}
+use native.Mathlib.Omega.{arith}
+use lib.Dec.{T, leb, leb→le}
+use lib.IntN.{ℤ, pos, negsuc}
+use lib.Signed.{leZ}
+use Rattle.rules.specs.declared.units.Milliseconds.{Milliseconds}
+use Rattle.rules.specs.declared.reading.Reading.{Reading}
+use Rattle.rules.specs.Test.{plausible}
+use Rattle.rules.specs.Protections.{Protection, highest}
+use Rattle.rules.specs.Trips.{Measured, time, passes, reaches, endsNow, isTripped}
+use Rattle.rules.specs.Accounts.{positiveTimes, joins}
+use Rattle.rules.proofs.Spans.{kept-or-new}
+use Rattle.rules.proofs.Decide.{and-or}
+use Rattle.rules.proofs.Sessions.{total}
+
+pub record MilderReading (r q : Reading) : Type 0 where
+  pub alike : plausible r ≡ plausible q
+  pub cells : T (plausible r) → highest r .0 ≤ highest q .0
+  pub current : T (plausible r) → T (leZ (q .current .0) (r .current .0))
+
+-- the two lists' times count from starts of their own
+pub record Milder (start begin : ℕ) (m n : Measured) : Type 0 where
+  pub times : start + time m ≡ begin + time n
+  pub readings : MilderReading (m .reading) (n .reading)
+
+-- a protection that trips more readily, and is within less readily, at a higher cell and a lower current
+abbrev pub Follows : Protection → Type 0
+Follows p =
+    (r q : Reading) → highest r .0 ≤ highest q .0 → T (leZ (q .current .0) (r .current .0))
+    → (T (p .beyond r) → T (p .beyond q)) × (T (p .within q) → T (p .within r))
+
+flipped : {A B : Type 0} {R : A → B → Type 0} {xs : List A} {ys : List B} → Forall₂ R xs ys → Forall₂ (λ y x. R x y) ys xs
+flipped Forall₂·nil = Forall₂·nil
+flipped (Forall₂·cons x xs) = Forall₂·cons x (flipped xs)
+
+weakened : {A B : Type 0} {R S : A → B → Type 0} {xs : List A} {ys : List B} → ((x : A) (y : B) → R x y → S x y) → Forall₂ R xs ys → Forall₂ S xs ys
+weakened f Forall₂·nil = Forall₂·nil
+weakened f (Forall₂·cons {a = x} {b = y} r rs) = Forall₂·cons (f x y r) (weakened f rs)
+
+-- ---- a span that ends at the newest measurement
+module _ (test : Reading → Bool) (start begin : ℕ) where
+  abbrev Carries : Measured → Measured → Type 0
+  Carries m n = (start + time m ≡ begin + time n) × (T (passes test m) → T (passes test n))
+
+  reaches-carried : {ms ns : List Measured} (d t u : ℕ) → start + t ≡ begin + u → Forall₂ Carries ms ns → T (reaches test d t ms) → T (reaches test d u ns)
+  reaches-carried d t u e Forall₂·nil h = h
+  reaches-carried d t u e (Forall₂·cons {a = m} {b = n} {l₁ = ms} {l₂ = ns} c cs) h =
+      let same : u - time n ≡ t - time m = omega (arith, e, c .0) in
+      let rest : T (reaches test d t ms) → T (reaches test d u ns) = reaches-carried d t u e cs in
+      let held = and-or (passes test m) (leb d (t - time m)) (reaches test d t ms) Iff·rfl .0 h in
+      and-or (passes test n) (leb d (u - time n)) (reaches test d u ns) Iff·rfl .1
+      (c .1 (held .0), elim (held .1) [ inl x ↦ inl (rw same x) | inr x ↦ inr (rest x) ])
+
+  ends-carried : {ms ns : List Measured} (d : Milliseconds) → Forall₂ Carries ms ns → T (endsNow test d ms) → T (endsNow test d ns)
+  ends-carried d Forall₂·nil h = h
+  ends-carried d (Forall₂·cons {a = m} {b = n} c cs) h = reaches-carried (d .0) (time m) (time n) (c .0) (Forall₂·cons c cs) h
+
+-- ---- tripped
+both : (a b c d : Bool) → a ≡ c → (T a → T b → T d) → T (a && b) → T (c && d)
+both true b c d e f h = subst (λ (x : Bool). T (x && d)) e (f tt h)
+both false b c d e f h = absurd h
+
+module _ (p : Protection) (follows : Follows p) (start begin : ℕ) where
+  beyond-carried : (m n : Measured) → Milder start begin m n → Carries (p .beyond) start begin m n
+  beyond-carried m n x = (
+    x .times,
+    both _ _ _ _ (x .readings .alike) (λ ok. follows (m .reading) (n .reading) (x .readings .cells ok) (x .readings .current ok) .0),
+  )
+
+  within-carried : (n m : Measured) → Milder start begin m n → Carries (p .within) begin start n m
+  within-carried n m x = (
+    sym (x .times),
+    both _ _ _ _ (sym (x .readings .alike))
+        (λ ok. let ok' : T (plausible (m .reading)) = rw (x .readings .alike) ok in
+        follows (m .reading) (n .reading) (x .readings .cells ok') (x .readings .current ok') .1),
+  )
+
+  pub tripped-milder : {ms ns : List Measured} → Forall₂ (Milder start begin) ms ns → T (isTripped p ms) → T (isTripped p ns)
+  tripped-milder Forall₂·nil h = h
+  tripped-milder (Forall₂·cons {a = m} {b = n} {l₁ = ms} {l₂ = ns} x xs) h =
+      let all : Forall₂ (Milder start begin) (m ∷ ms) (n ∷ ns) = Forall₂·cons x xs in
+      let trips = ends-carried (p .beyond) start begin (p .hold) (weakened beyond-carried all) in
+      let releases = ends-carried (p .within) begin start (p .release) (weakened within-carried (flipped all)) in
+      let before : T (isTripped p ms) → T (isTripped p ns) = tripped-milder xs in
+      let held =
+      kept-or-new (endsNow (p .beyond) (p .hold) (m ∷ ms)) (endsNow (p .within) (p .release) (m ∷ ms)) (isTripped p ms) Iff·rfl Iff·rfl Iff·rfl .0 h
+      in
+      kept-or-new (endsNow (p .beyond) (p .hold) (n ∷ ns)) (endsNow (p .within) (p .release) (n ∷ ns)) (isTripped p ns) Iff·rfl Iff·rfl Iff·rfl .1
+      (elim held [ inl y ↦ inl (trips y) | inr y ↦ inr (before (y .0), λ w. y .1 (releases w)) ])
+
+-- ---- charged
+positive-le : (j i : ℤ) (elapsed : ℕ) → T (leZ j i) → positiveTimes j elapsed ≤ positiveTimes i elapsed
+positive-le (pos j) (pos i) elapsed h = mul-le-mul-right elapsed (leb→le j i h)
+positive-le (pos j) (negsuc i) elapsed h = absurd h
+positive-le (negsuc j) i elapsed h = zero-le
+
+cond-le : (a b : Bool) {x y : ℕ} → (T a → y ≤ x) → cond (a && b) y 0 ≤ cond (a && b) x 0
+cond-le true true f = f tt
+cond-le true false f = zero-le
+cond-le false b f = zero-le
+
+module _ (start begin : ℕ) where
+  joins-milder : {before past : List Measured} → Forall₂ (Milder start begin) before past → (m n : Measured) → Milder start begin m n
+      → joins positiveTimes past n ≤ joins positiveTimes before m
+  joins-milder Forall₂·nil m n x = zero-le
+  joins-milder (Forall₂·cons {a = e} {b = f} y ys) m n x =
+      let same : time n - time f ≡ time m - time e = omega (arith, x .times, y .times) in
+      rw (← (x .readings .alike), ← (y .readings .alike), same)
+      (cond-le (plausible (e .reading)) (plausible (m .reading))
+      (λ ok. positive-le (f .reading .current .0) (e .reading .current .0) (time m - time e) (y .readings .current ok)))
+
+  pub total-milder : {before past ms ns : List Measured} → Forall₂ (Milder start begin) before past → Forall₂ (Milder start begin) ms ns
+      → total past ns ≤ total before ms
+  total-milder b Forall₂·nil = zero-le
+  total-milder b (Forall₂·cons {a = m} {b = n} x xs) = add-le-add (joins-milder b m n x) (total-milder (Forall₂·cons x b) xs)

@@ -7,3 +7,5 @@ pub mod Extremes
 pub mod Injective
 pub mod Sessions
 pub mod Milder
+pub mod Bounds
+pub mod Examples

@@ -1,0 +1,170 @@
+-- The bench examples: one theorem over all rows of specs/Examples. A row of frames is decided by two sessions, those of the mildest and
+-- of the severest readings that meet its conditions: every other session that meets them lies between the two.
+use mathlib.Core.Path.{_≡_, refl, sym, subst, _∙_}
+use mathlib.Core.Logic.{inl, inr}
+use mathlib.Core.Bool.{Bool, true, false, not, _&&_, _||_}
+use mathlib.Core.List.{List, [], _∷_, map, reverseAux, Forall₂, Forall₂·nil, Forall₂·cons}
+use Prim.Native.Nat.{ℕ, _+_, _≤_, _<_}
+use native.Mathlib.Omega.{arith}
+use lib.Dec.{T, T-not, not-T, leb, leb→le, ltb→lt, lt→ltb, le→leb, eqb, eqb→eq}
+use lib.IntN.{ℤ, pos, negℤ}
+use lib.Signed.{leZ, ltZ, leZ-yes, ltZ-yes, ltZ-no, <ℤ-≤ℤ-trans, clashℤ}
+use lib.ListN.{length, getD}
+use mir.Facts.{and-yes, or-yes}
+use Rattle.rules.specs.declared.reading.Reading.{Reading}
+use Rattle.rules.specs.Quantities.{ms, dC, dischargeRating}
+use Rattle.rules.specs.Test.{plausible, all}
+use Rattle.rules.specs.Protections.{highest, permitted, extremes, overvoltage, protection}
+use Rattle.rules.specs.Trips.{Measured, time, isTripped}
+use Rattle.rules.specs.Ledger.{ledger, accepted, TrippedOn}
+use Rattle.rules.specs.Accounts.{charged}
+use Rattle.rules.specs.Examples.{Condition, Frame, Meets, session, Outcome, clear, tripped, Comes, Row, permits, leaves, charges, Holds, rows}
+use Rattle.rules.proofs.Each.{Each, none, _and_, at-index, of-member, each-of}
+use Rattle.rules.proofs.Decide.{is-tripped}
+use Rattle.rules.proofs.Sessions.{Timely, total, measured-in, charged-in}
+use Rattle.rules.proofs.Milder.{Milder, Follows, tripped-milder, total-milder}
+use Rattle.rules.proofs.Bounds.{mildest, severest, atEnds, above-mildest, below-severest}
+
+-- ---- sessions between two
+abbrev modelled : (Condition → Reading) → Frame → Measured
+modelled end f = record { at = ms (f .at); reading = end (f .reads) }
+
+abbrev Ends : List Frame → Type 0
+Ends = Each (λ f. T (atEnds (f .reads)))
+
+module _ (start : ℕ) where
+  above-one : {f : Frame} {m : Measured} → T (atEnds (f .reads)) → Meets start f m → Milder start 0 (modelled mildest f) m
+  above-one {f} {m} e x = record { times = omega (arith, x .at); readings = above-mildest (f .reads) e (m .reading) (x .reads) }
+
+  below-one : {f : Frame} {m : Measured} → T (atEnds (f .reads)) → Meets start f m → Milder 0 start m (modelled severest f)
+  below-one {f} {m} e x = record { times = omega (arith, x .at); readings = below-severest (f .reads) e (m .reading) (x .reads) }
+
+  above : {frames : List Frame} {taken : List Measured} → Ends frames → Forall₂ (Meets start) frames taken
+      → Forall₂ (Milder start 0) (map (modelled mildest) frames) taken
+  above none Forall₂·nil = Forall₂·nil
+  above (e and es) (Forall₂·cons x xs) = Forall₂·cons (above-one e x) (above es xs)
+
+  below : {frames : List Frame} {taken : List Measured} → Ends frames → Forall₂ (Meets start) frames taken
+      → Forall₂ (Milder 0 start) taken (map (modelled severest) frames)
+  below none Forall₂·nil = Forall₂·nil
+  below (e and es) (Forall₂·cons x xs) = Forall₂·cons (below-one e x) (below es xs)
+
+reversed : {A B : Type 0} {R : A → B → Type 0} {xs ps : List A} {ys qs : List B} → Forall₂ R xs ys → Forall₂ R ps qs
+    → Forall₂ R (reverseAux xs ps) (reverseAux ys qs)
+reversed Forall₂·nil r = r
+reversed (Forall₂·cons x xs) r = reversed xs (Forall₂·cons x r)
+
+-- times that do not fall
+abbrev inOrder : ℕ → List Frame → Bool
+inOrder last [] = true
+inOrder last (f ∷ later) = leb last (f .at) && inOrder (f .at) later
+
+timely : {frames : List Frame} {taken : List Measured} (start last now : ℕ) → now ≤ start + last → T (inOrder last frames)
+    → Forall₂ (Meets start) frames taken → Timely now taken
+timely start last now h o Forall₂·nil = tt
+timely start last now h o (Forall₂·cons {a = f} {b = m} {l₁ = fs} x xs) =
+    let b = and-yes (leb last (f .at)) (inOrder (f .at) fs) o in
+    (omega (arith, leb→le last (f .at) (b .0), x .at), x .inMission, timely start (f .at) (time m) (omega (arith, x .at)) (b .1) xs)
+
+-- ---- the protections that the rows speak of look at the highest cell or at the current alone
+still-below : (a b limit : ℤ) → T (leZ b a) → T (ltZ a limit) → T (ltZ b limit)
+still-below a b limit le lt = decide (ltZ b limit) refl
+  where
+    decide : (t : Bool) → ltZ b limit ≡ t → T t
+    decide true e = tt
+    decide false e =
+        clashℤ {a = a} {b = b} (<ℤ-≤ℤ-trans (ltZ-yes {a = a} {b = limit} lt) (ltZ-no {a = b} {b = limit} (subst (λ (t : Bool). T (not t)) (sym e) tt))) (leZ-yes le)
+
+still-from : (a b limit : ℤ) → T (leZ b a) → T (leZ limit b) → T (leZ limit a)
+still-from a b limit le from =
+    ltZ-no {a = a} {b = limit}
+    (not-T (ltZ a limit)
+    (λ lt. clashℤ {a = a} {b = b} (<ℤ-≤ℤ-trans (ltZ-yes {a = a} {b = limit} lt) (leZ-yes {a = limit} {b = b} from)) (leZ-yes le)))
+    .le
+
+overvoltage-follows : Follows overvoltage
+overvoltage-follows r q cells current = (
+  λ b. lt→ltb 3_650 (highest q .0) (omega (arith, ltb→lt 3_650 (highest r .0) b)),
+  λ w. le→leb (highest r .0) 3_500 (omega (arith, leb→le (highest q .0) 3_500 w)),
+)
+
+-- tests of the current against two limits
+by-current : (limit floor : ℤ) (r q : Reading) → T (leZ (q .current .0) (r .current .0))
+    → (T (ltZ (r .current .0) limit) → T (ltZ (q .current .0) limit)) × (T (leZ floor (q .current .0)) → T (leZ floor (r .current .0)))
+by-current limit floor r q down = (still-below (r .current .0) (q .current .0) limit down, still-from (r .current .0) (q .current .0) floor down)
+
+abbrev followed : ℕ → Bool
+followed number = eqb number 0 || (eqb number 5 || eqb number 6)
+
+follows : (battery number : ℕ) → T (followed number) → Follows (protection battery number)
+unfolding protection
+follows battery number h = elim (or-yes (eqb number 0) (eqb number 5 || eqb number 6) h) [
+  | inl is ↦ subst (λ (n : ℕ). Follows (protection battery n)) (sym (eqb→eq number 0 is)) overvoltage-follows
+  | inr rest ↦ elim (or-yes (eqb number 5) (eqb number 6) rest) [
+    | inl is ↦ subst (λ (n : ℕ). Follows (protection battery n)) (sym (eqb→eq number 5 is)) (λ r q up. by-current (negℤ (pos 1_100_000)) (negℤ (pos (dischargeRating battery))) r q)
+    | inr is ↦ subst (λ (n : ℕ). Follows (protection battery n)) (sym (eqb→eq number 6 is)) (λ r q up. by-current (negℤ (pos (dischargeRating battery))) (negℤ (pos (dischargeRating battery))) r q)
+  ]
+]
+
+-- ---- a test that computes, row by row
+abbrev end : Outcome → Condition → Reading
+end clear = severest
+end tripped = mildest
+
+abbrev comes : Outcome → Bool → Bool
+comes clear trips = not trips
+comes tripped trips = trips
+
+abbrev leavesAtEnd : List Frame → ℕ → Outcome → ℕ → Bool
+leavesAtEnd frames number outcome battery = comes outcome (isTripped (protection battery number) (reverseAux (map (modelled (end outcome)) frames) []))
+
+abbrev usable : List Frame → Bool
+usable frames = inOrder 0 frames && all (map (λ f. atEnds (f .reads)) frames)
+
+abbrev decided : Row → Bool
+decided (permits battery coldest current) = eqb (permitted battery (dC coldest)) current
+decided (leaves types frames number outcome) = usable frames && (followed number && all (map (leavesAtEnd frames number outcome) types))
+decided (charges frames amount) =
+    usable frames && (eqb (total [] (map (modelled mildest) frames)) amount && eqb (total [] (map (modelled severest) frames)) amount)
+
+-- ---- a row so decided holds
+module _ (frames : List Frame) (u : T (usable frames)) (start : ℕ) (taken : List Measured) (meets : Forall₂ (Meets start) frames taken) where
+  in-time : Timely 0 taken
+  in-time = timely start 0 0 (omega arith) (and-yes (inOrder 0 frames) (all (map (λ f. atEnds (f .reads)) frames)) u .0) meets
+
+  ends : Ends frames
+  ends = each-of (λ f. atEnds (f .reads)) frames (and-yes (inOrder 0 frames) (all (map (λ f. atEnds (f .reads)) frames)) u .1)
+
+  leaves-as : (battery number : ℕ) (outcome : Outcome) → T (followed number) → T (leavesAtEnd frames number outcome battery)
+      → Comes outcome (TrippedOn battery (ledger (session taken)) number)
+  leaves-as battery number clear f h = λ t.
+      let p = protection battery number in
+      let tripped' = is-tripped p (reverseAux taken []) .1 (rw (measured-in taken in-time) at t) in
+      T-not (isTripped p (reverseAux (map (modelled severest) frames) [])) h
+      (tripped-milder p (follows battery number f) 0 start (reversed (below start ends meets) Forall₂·nil) tripped')
+  leaves-as battery number tripped f h =
+      let p = protection battery number in
+      rw (measured-in taken in-time)
+      (is-tripped p (reverseAux taken []) .0 (tripped-milder p (follows battery number f) start 0 (reversed (above start ends meets) Forall₂·nil) h))
+
+  charges-as : (amount : ℕ) → total [] (map (modelled mildest) frames) ≡ amount → total [] (map (modelled severest) frames) ≡ amount
+      → charged (accepted (session taken)) ≡ amount
+  charges-as amount most least =
+      charged-in taken in-time ∙ omega (arith, total-milder start 0 Forall₂·nil (above start ends meets), total-milder 0 start Forall₂·nil (below start ends meets), most, least)
+
+holds : (row : Row) → T (decided row) → Holds row
+holds (permits battery coldest current) h = eqb→eq (permitted battery (dC coldest)) current h
+holds (leaves types frames number outcome) h = λ battery m start taken meets.
+    let b = and-yes (usable frames) (followed number && all (map (leavesAtEnd frames number outcome) types)) h in
+    let c = and-yes (followed number) (all (map (leavesAtEnd frames number outcome) types)) (b .1) in
+    leaves-as frames (b .0) start taken meets battery number outcome (c .0) (of-member (each-of (leavesAtEnd frames number outcome) types (c .1)) m)
+holds (charges frames amount) h = λ start taken meets.
+    let most = total [] (map (modelled mildest) frames) in
+    let least = total [] (map (modelled severest) frames) in
+    let b = and-yes (usable frames) (eqb most amount && eqb least amount) h in
+    let c = and-yes (eqb most amount) (eqb least amount) (b .1) in
+    charges-as frames (b .0) start taken meets amount (eqb→eq most amount (c .0)) (eqb→eq least amount (c .1))
+
+pub examples : (i : ℕ) → i < length rows → (d : Row) → Holds (getD rows i d)
+unfolding rows plausible extremes permitted protection
+examples i h d = holds (getD rows i d) (at-index (each-of decided rows tt) i h d)

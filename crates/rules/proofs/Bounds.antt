@@ -1,10 +1,10 @@
 -- What a frame's condition leaves open lies between two readings: the mildest that meets it, with the lowest cells and the highest
 -- current, and the most severe, with the highest cells and the lowest current.
-use mathlib.Core.Path.{_≡_, refl, sym, _∙_}
+use mathlib.Core.Path.{_≡_, refl, sym, subst, _∙_}
 use mathlib.Core.Bool.{Bool, true, false, not, _&&_, Bool·beq}
-use mathlib.Core.List.{_∷_, map}
+use mathlib.Core.List.{_∷_, map, List·Memᴰ·head}
 use Prim.Native.Nat.{ℕ, _≤_}
-use native.Mathlib.Nat.{le-refl, le-trans}
+use native.Mathlib.Nat.{le-refl}
 use native.Mathlib.Omega.{arith}
 use lib.Dec.{T, leb, ltb, leb→le, nltb→le, not-T, T-not}
 use lib.IntN.{ℤ, pos, negℤ}
@@ -15,7 +15,7 @@ use Rattle.rules.specs.Quantities.{mV, mA, dC}
 use Rattle.rules.specs.Test.{cellInRange, currentInRange, temperatureInRange, inRange, plausible}
 use Rattle.rules.specs.Protections.{otherCells, otherTemperatures, highest}
 use Rattle.rules.specs.Examples.{Condition, someCell, highestCell, currentOf, anythingPlausible, implausible, Reads}
-use Rattle.rules.proofs.Each.{at-index, of-member, each-of, all-front}
+use Rattle.rules.proofs.Each.{none, _and_, at-index, of-member, each-of, all-front}
 use Rattle.rules.proofs.Extremes.{highest-is}
 use Rattle.rules.proofs.Milder.{MilderReading}
 
@@ -129,18 +129,17 @@ mildest c = even (bounds c .lowCell) (bounds c .highCurrent)
 abbrev pub severest : Condition → Reading
 severest c = even (bounds c .highCell) (bounds c .lowCurrent)
 
--- that they are plausible where they should be, and their highest cells the ends, computes for a condition with its figures
+highest-even : (cell : ℕ) (current : ℤ) → highest (even cell current) ≡ mV cell
+highest-even cell current =
+    of-member {P = λ v. v ≡ mV cell} (refl and refl and refl and refl and refl and refl and refl and refl and none)
+    (highest-is (even cell current) .present)
+
+-- that they are plausible where they should be computes, for a condition with its figures
 abbrev alikeAt : Condition → Reading → Bool
 alikeAt c r = Bool·beq (plausible r) (bounds c .isPlausible)
 
-abbrev mildEnd : Condition → Bool
-mildEnd c = alikeAt c (mildest c) && leb (highest (mildest c) .0) (bounds c .lowCell)
-
-abbrev severeEnd : Condition → Bool
-severeEnd c = alikeAt c (severest c) && leb (bounds c .highCell) (highest (severest c) .0)
-
 abbrev pub atEnds : Condition → Bool
-atEnds c = mildEnd c && severeEnd c
+atEnds c = alikeAt c (mildest c) && alikeAt c (severest c)
 
 same : (a b : Bool) → T (Bool·beq a b) → a ≡ b
 same true true h = refl
@@ -148,24 +147,39 @@ same true false h = absurd h
 same false true h = absurd h
 same false false h = refl
 
-module _ (c : Condition) (ends : T (atEnds c)) (r : Reading) (h : Reads c r) where
-  pub above-mildest : MilderReading (mildest c) r
-  above-mildest =
+module _ (c : Condition) (ends : T (atEnds c)) where
+  mildest-alike : plausible (mildest c) ≡ bounds c .isPlausible
+  mildest-alike = same (plausible (mildest c)) (bounds c .isPlausible) (and-yes (alikeAt c (mildest c)) (alikeAt c (severest c)) ends .0)
+
+  severest-alike : plausible (severest c) ≡ bounds c .isPlausible
+  severest-alike = same (plausible (severest c)) (bounds c .isPlausible) (and-yes (alikeAt c (mildest c)) (alikeAt c (severest c)) ends .1)
+
+  pub above-mildest : (r : Reading) → Reads c r → MilderReading (mildest c) r
+  above-mildest r h =
       let x = between c r h in
-      let end = and-yes (alikeAt c (mildest c)) (leb (highest (mildest c) .0) (bounds c .lowCell)) (and-yes (mildEnd c) (severeEnd c) ends .0) in
-      let alike : plausible (mildest c) ≡ plausible r = same (plausible (mildest c)) (bounds c .isPlausible) (end .0) ∙ sym (x .alike) in
+      let alike : plausible (mildest c) ≡ plausible r = mildest-alike ∙ sym (x .alike) in
       record {
         alike = alike;
-        cells = λ ok. le-trans (leb→le (highest (mildest c) .0) (bounds c .lowCell) (end .1)) (x .lowCell (rw alike at ok));
+        cells = λ ok. rw (highest-even (bounds c .lowCell) (bounds c .highCurrent)) (x .lowCell (rw alike at ok));
         current = λ ok. x .highCurrent (rw alike at ok);
       }
 
-  pub below-severest : MilderReading r (severest c)
-  below-severest =
+  pub below-severest : (r : Reading) → Reads c r → MilderReading r (severest c)
+  below-severest r h =
       let x = between c r h in
-      let end = and-yes (alikeAt c (severest c)) (leb (bounds c .highCell) (highest (severest c) .0)) (and-yes (mildEnd c) (severeEnd c) ends .1) in
       record {
-        alike = x .alike ∙ sym (same (plausible (severest c)) (bounds c .isPlausible) (end .0));
-        cells = λ ok. le-trans (x .highCell ok) (leb→le (bounds c .highCell) (highest (severest c) .0) (end .1));
+        alike = x .alike ∙ sym severest-alike;
+        cells = λ ok. rw (highest-even (bounds c .highCell) (bounds c .lowCurrent)) (x .highCell ok);
         current = x .lowCurrent;
       }
+
+-- a condition can be met: by its mildest reading
+pub mildest-meets : (c : Condition) → T (atEnds c) → Reads c (mildest c)
+mildest-meets c ends = by c (mildest-alike c ends)
+  where
+    by : (c : Condition) → plausible (mildest c) ≡ bounds c .isPlausible → Reads c (mildest c)
+    by (someCell v) e = (subst T (sym e) tt, List·Memᴰ·head refl)
+    by (highestCell v) e = (subst T (sym e) tt, highest-even v (pos 2_000_000))
+    by (currentOf i) e = (subst T (sym e) tt, refl)
+    by anythingPlausible e = subst T (sym e) tt
+    by implausible e = rw e tt

@@ -12,7 +12,7 @@ use lib.Signed.{leZ, ltZ, leZ-yes, ltZ-yes, ltZ-no, <ℤ-≤ℤ-trans, clashℤ}
 use lib.ListN.{length, getD}
 use mir.Facts.{and-yes, or-yes}
 use Rattle.rules.specs.declared.reading.Reading.{Reading}
-use Rattle.rules.specs.Quantities.{ms, dC, dischargeRating}
+use Rattle.rules.specs.Quantities.{ms, dC, dischargeRating, missionTime}
 use Rattle.rules.specs.Test.{plausible, all}
 use Rattle.rules.specs.Protections.{highest, permitted, extremes, overvoltage, protection}
 use Rattle.rules.specs.Trips.{Measured, time, isTripped}
@@ -23,7 +23,7 @@ use Rattle.rules.proofs.Each.{Each, none, _and_, at-index, of-member, e
 use Rattle.rules.proofs.Decide.{is-tripped}
 use Rattle.rules.proofs.Sessions.{Timely, total, measured-in, charged-in}
 use Rattle.rules.proofs.Milder.{Milder, Follows, tripped-milder, total-milder}
-use Rattle.rules.proofs.Bounds.{mildest, severest, atEnds, above-mildest, below-severest}
+use Rattle.rules.proofs.Bounds.{mildest, severest, atEnds, above-mildest, below-severest, mildest-meets}
 
 -- ---- sessions between two
 abbrev modelled : (Condition → Reading) → Frame → Measured
@@ -168,3 +168,27 @@ holds (charges frames amount) h = λ start taken meets.
 pub examples : (i : ℕ) → i < length rows → (d : Row) → Holds (getD rows i d)
 unfolding rows plausible extremes permitted protection
 examples i h d = holds (getD rows i d) (at-index (each-of decided rows tt) i h d)
+
+-- ---- and no row is empty: a session meets its frames
+abbrev framesOf : Row → List Frame
+framesOf (permits battery coldest current) = []
+framesOf (leaves types frames number outcome) = frames
+framesOf (charges frames amount) = frames
+
+abbrev meetable : Frame → Bool
+meetable f = atEnds (f .reads) && leb (f .at) missionTime
+
+meets-mildest : (f : Frame) → T (meetable f) → Meets 0 f (modelled mildest f)
+meets-mildest f h =
+    let b = and-yes (atEnds (f .reads)) (leb (f .at) missionTime) h in
+    record { at = omega arith; inMission = leb→le (f .at) missionTime (b .1); reads = mildest-meets (f .reads) (b .0) }
+
+meet-mildest : {frames : List Frame} → Each (λ f. T (meetable f)) frames → Forall₂ (Meets 0) frames (map (modelled mildest) frames)
+meet-mildest none = Forall₂·nil
+meet-mildest (_and_ {x = f} h hs) = Forall₂·cons (meets-mildest f h) (meet-mildest hs)
+
+pub met : (i : ℕ) → i < length rows → (d : Row) → (taken : List Measured) × Forall₂ (Meets 0) (framesOf (getD rows i d)) taken
+unfolding rows plausible
+met i h d =
+    let frames = framesOf (getD rows i d) in
+    (map (modelled mildest) frames, meet-mildest (each-of meetable frames (at-index (each-of (λ row. all (map meetable (framesOf row))) rows tt) i h d)))

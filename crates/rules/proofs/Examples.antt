@@ -6,7 +6,7 @@ use mathlib.Core.Bool.{Bool, true, false, not, _&&_, _||_}
 use mathlib.Core.List.{List, [], _∷_, map, reverseAux, Forall₂, Forall₂·nil, Forall₂·cons}
 use Prim.Native.Nat.{ℕ, _+_, _≤_, _<_}
 use native.Mathlib.Omega.{arith}
-use lib.Dec.{T, T-not, not-T, leb, leb→le, ltb→lt, lt→ltb, le→leb, eqb, eqb→eq}
+use lib.Dec.{T, T-not, not-T, leb, leb→le, le→leb, eqb, eqb→eq}
 use lib.IntN.{ℤ, pos, negℤ}
 use lib.Signed.{leZ, ltZ, leZ-yes, ltZ-yes, ltZ-no, <ℤ-≤ℤ-trans, clashℤ}
 use lib.ListN.{length, getD}
@@ -14,7 +14,7 @@ use mir.Facts.{and-yes, or-yes}
 use Rattle.rules.specs.declared.reading.Reading.{Reading}
 use Rattle.rules.specs.Quantities.{ms, dC, dischargeRating, missionTime}
 use Rattle.rules.specs.Test.{plausible, all}
-use Rattle.rules.specs.Protections.{highest, permitted, extremes, overvoltage, protection}
+use Rattle.rules.specs.Protections.{permitted, extremes, overvoltage, protection}
 use Rattle.rules.specs.Trips.{Measured, time, isTripped}
 use Rattle.rules.specs.Ledger.{ledger, accepted, TrippedOn}
 use Rattle.rules.specs.Accounts.{charged}
@@ -83,10 +83,7 @@ still-from a b limit le from =
     .le
 
 overvoltage-follows : Follows overvoltage
-overvoltage-follows r q cells current = (
-  λ b. lt→ltb 3_650 (highest q .0) (omega (arith, ltb→lt 3_650 (highest r .0) b)),
-  λ w. le→leb (highest r .0) 3_500 (omega (arith, leb→le (highest q .0) 3_500 w)),
-)
+overvoltage-follows r q cells current = (λ b. omega (arith, leb→le, le→leb), λ w. omega (arith, leb→le, le→leb))
 
 -- tests of the current against two limits
 by-current : (limit floor : ℤ) (r q : Reading) → T (leZ (q .current .0) (r .current .0))

@@ -13,7 +13,7 @@ use Rattle.rules.specs.declared.battery.Record.{Record}
 use Rattle.rules.specs.Quantities.{isType}
 use Rattle.rules.specs.Numbers.{stateNumber, commandNumber, overrideNumber, testNumber, contactorNumber}
 use Rattle.rules.specs.Refusals.{firstOf, freshChecks, refusal, CallAnswer}
-use Rattle.rules.specs.Ledger.{Ledger, ledger, refusals, accepted, testOf, failedMaskOf, failedCountOf, TrippedOn}
+use Rattle.rules.specs.Ledger.{ledger, refusals, accepted, testOf, failedMaskOf, failedCountOf, TrippedOn}
 use Rattle.rules.specs.Stores.{longTerm, shortTerm}
 use Rattle.rules.specs.Accounts.{charged, discharged}
 use Rattle.rules.specs.Contactor.{Closed, ContactorsDiffer}

@@ -1,7 +1,7 @@
 -- Document 01, "The contactor", on the ledger of a run's type and list.
 use Prim.Native.Nat.{ℕ, _<_}
 use mathlib.Core.Path.{_≡_}
-use mathlib.Core.Bool.{Bool, true, false}
+use mathlib.Core.Bool.{true}
 use mathlib.Core.Logic.{_⊎_, _≢_}
 use lib.Dec.{T}
 use Rattle.rules.specs.declared.states.State.the-variants.{Operational, Maintenance}

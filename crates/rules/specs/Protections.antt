@@ -1,12 +1,11 @@
 -- Document 01, "Protections": the table, a row for each, and the permitted charge current L.
-use Prim.Native.Nat.{ℕ, zero, suc, _+_, _-_, _*_, _/_}
+use Prim.Native.Nat.{ℕ, _+_, _-_, _*_, _/_}
 use mathlib.Core.Bool.{Bool, true, false, cond, _&&_}
 use mathlib.Core.List.{List, [], _∷_}
 use lib.Dec.{ltb}
 use lib.ListN.{getD}
 use lib.IntN.{ℤ, pos, negsuc, negℤ}
 use Rattle.rules.specs.declared.units.Millivolts.{Millivolts}
-use Rattle.rules.specs.declared.units.Milliamperes.{Milliamperes}
 use Rattle.rules.specs.declared.units.Milliseconds.{Milliseconds}
 use Rattle.rules.specs.declared.units.DeciCelsius.{DeciCelsius}
 use Rattle.rules.specs.declared.reading.Reading.{Reading}

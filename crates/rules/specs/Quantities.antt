@@ -1,8 +1,8 @@
 -- Document 01, "Quantities".
-use Prim.Native.Nat.{ℕ, suc}
-use mathlib.Core.Bool.{Bool, true, false, cond, _||_}
-use lib.Dec.{T, leb, ltb, eqb}
-use lib.IntN.{ℤ, pos, negsuc, negℤ}
+use Prim.Native.Nat.{ℕ}
+use mathlib.Core.Bool.{Bool, cond, _||_}
+use lib.Dec.{leb, ltb, eqb}
+use lib.IntN.{ℤ}
 use lib.Signed.{leZ, ltZ}
 use Rattle.rules.specs.declared.units.Millivolts.{Millivolts}
 use Rattle.rules.specs.declared.units.Milliamperes.{Milliamperes}

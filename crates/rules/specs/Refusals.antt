@@ -1,7 +1,7 @@
 -- Document 01, "Where each number is raised": the table, a list of (number, condition) for each place, in its order. The first condition
 -- that holds gives the answer; 0 where none holds.
-use Prim.Native.Nat.{ℕ, zero, suc, _<_}
-use mathlib.Core.Bool.{Bool, true, false, not, cond}
+use Prim.Native.Nat.{ℕ}
+use mathlib.Core.Bool.{Bool, false, not, cond}
 use mathlib.Core.List.{List, [], _∷_}
 use lib.Dec.{ltb}
 use Rattle.rules.specs.declared.calls.Event.{Event}

@@ -1,8 +1,8 @@
 -- Document 01, "Protections", its last paragraph: spans, their lengths, and when a protection is tripped.
 -- A session's measurements stand newest first, so that the list with one more is that one in front of it: `back taken k` is the
 -- measurement k places before the last, and "later" is a smaller k.
-use Prim.Native.Nat.{ℕ, zero, suc, _-_, _≤_, _<_}
-use mathlib.Core.Bool.{Bool, true, false, not, _&&_, _||_}
+use Prim.Native.Nat.{ℕ, _-_, _≤_, _<_}
+use mathlib.Core.Bool.{Bool, false, not, _&&_, _||_}
 use mathlib.Core.List.{List, [], _∷_}
 use lib.Dec.{T, leb}
 use lib.IntN.{pos}

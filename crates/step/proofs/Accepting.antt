@@ -1,12 +1,11 @@
 -- An accepted call leaves a record that shows the ledger after it. Assumes nothing.
 use mathlib.Core.Path.{_≡_, refl, sym, ap, ap₂, subst, _∙_}
 use mathlib.Core.Bool.{Bool, true, false, not, cond, _&&_}
-use mathlib.Core.List.{List, [], _∷_, _++_, append-nil, append-assoc}
-use Prim.Native.Nat.{ℕ, zero, suc, _+_, _*_, _≤_, _<_}
+use mathlib.Core.List.{List, [], _∷_, _++_, append-nil}
+use Prim.Native.Nat.{ℕ, _+_, _*_, _≤_, _<_}
 use native.Mathlib.Omega.{arith}
-use lib.Dec.{T}
 use lib.IntN.{ℤ}
-use lib.ListN.{length, take, getD}
+use lib.ListN.{take}
 use Rattle.rules.specs.declared.units.Milliseconds.{Milliseconds}
 use Rattle.rules.specs.declared.reading.Reading.{Reading}
 use Rattle.rules.specs.declared.states.State.{State}
@@ -22,17 +21,15 @@ use Rattle.rules.specs.declared.tracking.Watch.{Watch}
 use Rattle.rules.specs.declared.tracking.ProtectionState.{ProtectionState}
 use Rattle.rules.specs.declared.stores.Stores.{Stores}
 use Rattle.rules.specs.declared.battery.Control.{Control}
-use Rattle.rules.specs.declared.battery.Tally.{Tally}
 use Rattle.rules.specs.declared.battery.Record.{Record}
 use Rattle.rules.specs.declared.stores.Entry.{Entry}
-use Rattle.rules.specs.Quantities.{isType, missionTime}
 use Rattle.rules.specs.Calls.{timeOf}
 use Rattle.rules.specs.Numbers.{testNumber}
 use Rattle.rules.specs.States.{requested, isChange, entersDormant}
-use Rattle.rules.specs.Test.{plausible, failedMask}
+use Rattle.rules.specs.Test.{plausible}
 use Rattle.rules.specs.Protections.{protection}
-use Rattle.rules.specs.Trips.{Measured, time, isTripped}
-use Rattle.rules.specs.Ledger.{Ledger, accept, Accepted, entered, testOf, isTrippedOn}
+use Rattle.rules.specs.Trips.{Measured}
+use Rattle.rules.specs.Ledger.{Ledger, accept, Accepted, entered, isTrippedOn}
 use Rattle.rules.specs.Stores.{since, isClear, isBorder, tripsOf, entriesOf, longTerm, shortTerm, lastOf}
 use Rattle.rules.specs.Accounts.{account, joins, charged, discharged, positiveTimes, negativeTimes}
 use Rattle.rules.specs.Shown.{longEntries, shortEntries}
@@ -40,14 +37,13 @@ use Rattle.rules.proofs.Apart.{apart}
 use Rattle.step.specs.Fresh.{noWatch, controlIn, noneRecent}
 use Rattle.step.specs.Sound.{at}
 use Rattle.step.specs.Track.{trackOne, trackAll, observe}
-use Rattle.step.specs.Push.{pushAll}
 use Rattle.step.specs.Charge.{inflow, outflow, flowed, charge}
 use Rattle.step.specs.Call.{requestControl, advance}
 use Rattle.step.proofs.Bools.{at-place}
 use Rattle.step.proofs.Tracking.{AllBy, Ordered, all-by-later, Tracks, tracks-next}
 use Rattle.step.proofs.Refusals.{InTime}
 use Rattle.step.proofs.Lists.{take-kept, last-kept}
-use Rattle.step.proofs.Adding.{StoresFit, Added, added-all}
+use Rattle.step.proofs.Adding.{Added, added-all}
 use Rattle.step.proofs.Charging.{inflow-is, outflow-is, flowed-is, accountTime, Bounded, joins-bounded, positive-bounded, negative-bounded}
 use Rattle.step.proofs.Shows.{ShowsControl, ShowsWatch, ShowsTally, ShowsStores, Timed, Shows, watch-none, long-none, short-none}
 

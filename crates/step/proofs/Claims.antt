@@ -1,27 +1,22 @@
 -- The claims, of the step: instances at the fresh record of what Runs, Closing and Overrides prove of any record. Assumes nothing.
-use mathlib.Core.Path.{_≡_, refl, sym, ap, ap₂, subst, _∙_}
+use mathlib.Core.Path.{_≡_, refl, sym, ap, subst, _∙_}
 use mathlib.Core.Logic.{_↔_, _≢_}
 use mathlib.Core.Bool.{Bool, true, false, cond, _&&_}
-use mathlib.Core.List.{List, [], _∷_}
+use mathlib.Core.List.{List, []}
 use Prim.Native.Nat.{ℕ, zero, suc, _<_}
-use native.Mathlib.Omega.{arith}
 use lib.Dec.{T, leb}
-use Rattle.rules.specs.declared.states.Contactor.{Contactor}
 use Rattle.rules.specs.declared.calls.Event.{Event}
-use Rattle.rules.specs.declared.battery.Live.{Live}
 use Rattle.rules.specs.declared.battery.Record.{Record}
 use Rattle.rules.specs.Quantities.{isType}
 use Rattle.rules.specs.Numbers.{stateNumber, commandNumber, overrideNumber, testNumber, contactorNumber}
-use Rattle.rules.specs.Refusals.{CallAnswer, CallAnswer.unsound}
-use Rattle.rules.specs.Refusals.{refusal as refusalByTable}
+use Rattle.rules.specs.Refusals.{CallAnswer.unsound}
 use Rattle.rules.specs.Protections.{protection}
-use Rattle.rules.specs.Ledger.{Ledger, ledger, atFirst, accepted, Accepted, isTrippedOn}
+use Rattle.rules.specs.Ledger.{ledger, atFirst, accepted, isTrippedOn}
 use Rattle.rules.specs.Stores.{longTerm, shortTerm}
 use Rattle.rules.specs.Contactor.{Closed, ContactorsDiffer}
 use Rattle.rules.specs.Alike.{Alike}
 use Rattle.rules.specs.Shown.{keptOf, longEntries, shortEntries}
-use Rattle.rules.specs.Soundness.{Sound}
-use Rattle.rules.specs.Claims.{Engine, AfterList, AfterEveryList, TwoRuns, AnyTwoLists, typeOr1, FreshOf, Refused, OnEveryRecord}
+use Rattle.rules.specs.Claims.{Engine, AfterList, AfterEveryList, TwoRuns, AnyTwoLists, FreshOf, Refused, OnEveryRecord}
 use Rattle.rules.proofs.Decide.{is-tripped}
 use Rattle.step.specs.Fresh.{freshRecord, fresh}
 use Rattle.step.specs.Sound.{sound}

@@ -1,9 +1,9 @@
 -- The contactor of a record is closed exactly when the rule on the ledger that it shows says so. Assumes nothing.
-use mathlib.Core.Path.{_≡_, refl, sym, ap, ap₂, subst, _∙_}
+use mathlib.Core.Path.{_≡_, refl, sym, subst, _∙_}
 use mathlib.Core.Logic.{_↔_, _⊎_, inl, inr, _≢_}
 use mathlib.Core.Bool.{Bool, true, false, not, cond, _&&_, _||_, true≢false, false≢true}
-use mathlib.Core.List.{List, [], _∷_}
-use Prim.Native.Nat.{ℕ, zero, suc, _≤_, _<_}
+use mathlib.Core.List.{List}
+use Prim.Native.Nat.{ℕ, _<_}
 use native.Mathlib.Omega.{arith}
 use lib.Dec.{T}
 use Rattle.rules.specs.declared.states.State.{State}
@@ -18,10 +18,10 @@ use Rattle.rules.specs.declared.battery.Live.{Live}
 use Rattle.rules.specs.declared.battery.Record.{Record}
 use Rattle.rules.specs.Numbers.{testNumber, contactorNumber}
 use Rattle.rules.specs.Protections.{protection}
-use Rattle.rules.specs.Ledger.{Ledger, testOf, TrippedOn, isTrippedOn, Accepted}
+use Rattle.rules.specs.Ledger.{Ledger, TrippedOn, isTrippedOn, Accepted}
 use Rattle.rules.specs.Contactor.{StateAndCommand, PermitsClosing, InForce, AllLiftable, NoneTripped, SomeTripped, Closed, ContactorsDiffer}
 use Rattle.rules.proofs.Decide.{is-tripped}
-use Rattle.step.specs.Sound.{at, all, listOf}
+use Rattle.step.specs.Sound.{at, all}
 use Rattle.step.specs.Close.{hasPassed, ready, lifted, closes, contactor}
 use Rattle.step.proofs.Bools.{and-iff, is-true, all-places, some-place}
 use Rattle.step.proofs.Shows.{Shows}

@@ -1,8 +1,8 @@
 -- Records that are equal but for override stay so through every call, and answer alike, whatever the on or off values of override calls.
 -- Assumes nothing.
-use mathlib.Core.Path.{_≡_, refl, sym, ap, ap₂, subst, _∙_}
-use mathlib.Core.Bool.{Bool, true, false}
-use mathlib.Core.List.{List, [], _∷_}
+use mathlib.Core.Path.{_≡_, refl, sym, ap, ap₂, _∙_}
+use mathlib.Core.Bool.{Bool, false}
+use mathlib.Core.List.{List, _∷_}
 use Prim.Native.Nat.{ℕ, zero, suc}
 use Rattle.rules.specs.declared.units.Milliseconds.{Milliseconds}
 use Rattle.rules.specs.declared.states.State.{State}
@@ -14,9 +14,9 @@ use Rattle.rules.specs.declared.calls.Event.the-variants.{Measurement, PowerOn,
 use Rattle.rules.specs.declared.battery.Control.{Control}
 use Rattle.rules.specs.declared.battery.Record.{Record}
 use Rattle.rules.specs.Alike.{Alike, none, same, switched}
-use Rattle.step.specs.Sound.{sound, soundLive}
+use Rattle.step.specs.Sound.{soundLive}
 use Rattle.step.specs.Refusal.{refusal, refusalLive}
-use Rattle.step.specs.Call.{requestControl, advanceLive, advanceStores, advance, answer, call, run, answers}
+use Rattle.step.specs.Call.{requestControl, advance, answer, call, run, answers}
 use Rattle.step.proofs.Closing.{overridden}
 
 -- the record as if override didn't exist

@@ -1,11 +1,10 @@
 -- The step refuses a call as the table of the rules does. Assumes nothing.
-use mathlib.Core.Path.{_≡_, refl, sym, ap, subst, _∙_}
+use mathlib.Core.Path.{_≡_, refl, sym}
 use mathlib.Core.Bool.{Bool, true, false, not, cond, _&&_}
-use mathlib.Core.List.{List, [], _∷_}
-use Prim.Native.Nat.{ℕ, zero, suc, _≤_, _<_}
+use Prim.Native.Nat.{ℕ, _≤_}
 use native.Mathlib.Omega.{arith}
-use borrow.Author.Tests.{ltb-true, ltb-false}
-use lib.Dec.{T, ltb}
+use borrow.Author.Tests.{ltb-false}
+use lib.Dec.{ltb}
 use Rattle.rules.specs.declared.states.State.{State}
 use Rattle.rules.specs.declared.states.State.the-variants.{Unpowered, Dormant, Operational, Maintenance}
 use Rattle.rules.specs.declared.calls.Command.{Command}
@@ -17,10 +16,10 @@ use Rattle.rules.specs.declared.calls.Event.the-variants.{Measurement, PowerOn,
 use Rattle.rules.specs.declared.battery.Live.{Live}
 use Rattle.rules.specs.Quantities.{missionTime}
 use Rattle.rules.specs.Calls.{timeOf}
-use Rattle.rules.specs.Refusals.{firstOf, callChecks, CallAnswer, misplaced, requestBarred, otherBarred}
+use Rattle.rules.specs.Refusals.{CallAnswer, misplaced, requestBarred, otherBarred}
 use Rattle.rules.specs.Refusals.{refusal as refusalByTable}
 use Rattle.rules.specs.Refusals.{CallAnswer.accepted, CallAnswer.timeBelowLast, CallAnswer.timeAboveMission, CallAnswer.wrongPower, CallAnswer.requestNotAllowed, CallAnswer.otherNotAllowed}
-use Rattle.step.specs.Refusal.{byState, refusalLive, belowCeiling}
+use Rattle.step.specs.Refusal.{byState, refusalLive}
 use Rattle.step.specs.Refusal.{timeOf as timeOfCall}
 
 -- one proof for each state

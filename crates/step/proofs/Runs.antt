@@ -9,13 +9,11 @@ use Rattle.rules.specs.declared.tracking.Previous.the-variants.{Nothing, Frame}
 use Rattle.rules.specs.declared.calls.Event.{Event}
 use Rattle.rules.specs.declared.calls.Event.the-variants.{Measurement, PowerOn, PowerLoss, ContactorCommand, StateRequest, BattleOverride, ClearLongTerm}
 use Rattle.rules.specs.declared.battery.Record.{Record}
-use Rattle.rules.specs.declared.answers.Outcome.{Outcome}
 use Rattle.rules.specs.Test.{plausible}
 use Rattle.rules.specs.Protections.{protection}
 use Rattle.rules.specs.Trips.{Measured}
 use Rattle.rules.specs.Ledger.{Ledger, refused, accept, ifAccepted, enter, ledgerFrom, refusalsFrom, Accepted, entered, acceptedFrom, failedMaskOf}
 use Rattle.rules.specs.Soundness.{Sound, MeasuredBy, KeptInRange}
-use Rattle.rules.specs.Refusals.{refusal as refusalByTable}
 use Rattle.rules.proofs.Mask.{mask-13-bits}
 use Rattle.step.specs.Sound.{at, sound}
 use Rattle.step.specs.Refusal.{refusal, refusalLive}

@@ -1,56 +1,29 @@
 -- The record shows the ledger: this is kept by every call, from any record and ledger that have it. Assumes nothing.
-use mathlib.Core.Path.{_≡_, refl, sym, ap, ap₂, subst, _∙_}
-use mathlib.Core.Logic.{_↔_}
-use mathlib.Core.Bool.{Bool, true, false, not, cond, _&&_}
-use mathlib.Core.List.{List, [], _∷_, _++_, append-nil}
-use Prim.Native.Nat.{ℕ, zero, suc, _+_, _*_, _≤_, _<_}
+use mathlib.Core.Path.{_≡_, refl, sym, subst}
+use mathlib.Core.List.{List, []}
+use Prim.Native.Nat.{ℕ, _*_, _≤_, _<_}
 use native.Mathlib.Nat.{not-suc-le-zero}
 use native.Mathlib.Omega.{arith}
 use lib.Dec.{T}
-use lib.ListN.{length, take, getD}
-use Rattle.rules.specs.declared.units.Milliseconds.{Milliseconds}
-use Rattle.rules.specs.declared.reading.Reading.{Reading}
-use Rattle.rules.specs.declared.states.State.{State}
-use Rattle.rules.specs.declared.states.State.the-variants.{Unpowered, Dormant, Operational, Maintenance}
-use Rattle.rules.specs.declared.states.TestResult.the-variants.{Passed, Failed}
-use Rattle.rules.specs.declared.calls.Request.{Request}
-use Rattle.rules.specs.declared.calls.Request.the-variants.{Dormant as ToDormant, Operational as ToOperational, Maintenance as ToMaintenance}
-use Rattle.rules.specs.declared.calls.Event.{Event}
-use Rattle.rules.specs.declared.calls.Event.the-variants.{Measurement, PowerOn, PowerLoss, ContactorCommand, StateRequest, BattleOverride, ClearLongTerm}
 use Rattle.rules.specs.declared.tracking.Watch.{Watch}
 use Rattle.rules.specs.declared.stores.Stores.{Stores}
 use Rattle.rules.specs.declared.battery.Control.{Control}
 use Rattle.rules.specs.declared.battery.Tally.{Tally}
 use Rattle.rules.specs.declared.battery.Record.{Record}
 use Rattle.rules.specs.Quantities.{isType, missionTime}
-use Rattle.rules.specs.Calls.{timeOf}
 use Rattle.rules.specs.Numbers.{testNumber}
-use Rattle.rules.specs.States.{requested, isChange, entersDormant}
-use Rattle.rules.specs.Test.{plausible, failedMask}
 use Rattle.rules.specs.Protections.{protection}
-use Rattle.rules.specs.Trips.{Measured, time, isTripped}
-use Rattle.rules.specs.Ledger.{Ledger, atFirst, refused, accept, ifAccepted, enter, Accepted, entered, testOf, failedMaskOf, failedCountOf, isTrippedOn}
-use Rattle.rules.specs.Stores.{since, isClear, isBorder, tripsOf, entriesOf, longTerm, shortTerm, lastOf, inRisingNumber}
-use Rattle.rules.specs.Accounts.{charged, discharged, positiveTimes, negativeTimes}
-use Rattle.rules.specs.Shown.{keptOf, longEntries, shortEntries}
-use Rattle.rules.specs.Soundness.{Sound}
-use Rattle.rules.proofs.Apart.{apart}
-use Rattle.rules.proofs.Mask.{mask-13-bits}
-use Rattle.step.specs.Fresh.{noWatch, noTally, controlIn, noFaults, noneRecent, freshRecord}
-use Rattle.step.specs.Sound.{at, sound}
-use Rattle.step.specs.Refusal.{refusal}
-use Rattle.step.specs.Track.{trackOne, trackAll, observe}
-use Rattle.step.specs.Push.{pushAll}
-use Rattle.step.specs.Charge.{inflow, outflow, charge}
-use Rattle.step.specs.Call.{measureLive, requestControl, advance, answer, call}
-use Rattle.step.proofs.Bools.{is-true, at-place}
-use Rattle.step.proofs.Tracking.{AllBy, Ordered, all-by-later, Tracks, tracks-none, tracks-next, tracks-by}
-use Rattle.step.proofs.Refusals.{by-table, InTime, in-time}
-use Rattle.step.proofs.Sounds.{sound-is}
-use Rattle.step.proofs.Lists.{take-kept, last-kept}
+use Rattle.rules.specs.Trips.{Measured}
+use Rattle.rules.specs.Ledger.{Ledger, atFirst, Accepted, testOf, failedMaskOf, failedCountOf}
+use Rattle.rules.specs.Stores.{longTerm, shortTerm}
+use Rattle.rules.specs.Accounts.{charged, discharged}
+use Rattle.rules.specs.Shown.{longEntries, shortEntries}
+use Rattle.step.specs.Fresh.{noWatch, noFaults, noneRecent, freshRecord}
+use Rattle.step.specs.Sound.{at}
+use Rattle.step.proofs.Tracking.{AllBy, Ordered, Tracks, tracks-none}
 use Rattle.step.proofs.Storing.{LongFits, ShortFits}
-use Rattle.step.proofs.Adding.{StoresFit, Added, added-all}
-use Rattle.step.proofs.Charging.{previousOf, inflow-is, outflow-is, flowed-is, accountTime, joins-bounded, positive-bounded, negative-bounded, plausible-current}
+use Rattle.step.proofs.Adding.{StoresFit}
+use Rattle.step.proofs.Charging.{previousOf, accountTime}
 
 -- ---- what the parts of the record show
 

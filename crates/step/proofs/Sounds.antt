@@ -1,20 +1,20 @@
 -- The step's test of soundness is document 01's list of conditions, no more and no less. Assumes nothing.
-use mathlib.Core.Path.{_≡_, refl, sym, ap, subst, _∙_}
+use mathlib.Core.Path.{_≡_, refl, sym, subst}
 use mathlib.Core.Logic.{_↔_, _⊎_, inl, inr}
-use mathlib.Core.Bool.{Bool, true, false, not, _&&_, _||_}
-use mathlib.Core.List.{List, [], _∷_}
-use Prim.Native.Nat.{ℕ, zero, suc, _*_, _≤_, _<_}
+use mathlib.Core.Bool.{Bool, true, false, _&&_, _||_}
+use mathlib.Core.List.{List}
+use Prim.Native.Nat.{ℕ, zero, suc, _≤_, _<_}
 use native.Mathlib.Omega.{arith}
 use native.Mathlib.Nat.{eq-or-lt-of-le, not-suc-le-zero, le-of-suc-le-suc}
-use borrow.Author.Tests.{eqb-false, eq-eqb}
-use lib.Dec.{T, leb, ltb, eqb, leb→le, le→leb, ltb→lt, lt→ltb, eqb→eq}
+use borrow.Author.Tests.{eqb-false}
+use lib.Dec.{T, leb, eqb, leb→le, le→leb, ltb→lt, lt→ltb, eqb→eq}
 use lib.ListN.{getD}
 use Rattle.rules.specs.declared.tracking.Span.{Span}
 use Rattle.rules.specs.declared.tracking.Span.the-variants.{Idle, Beyond, Within}
 use Rattle.rules.specs.declared.tracking.Previous.{Previous}
 use Rattle.rules.specs.declared.tracking.Previous.the-variants.{Nothing, Frame}
 use Rattle.rules.specs.declared.battery.Record.{Record}
-use Rattle.rules.specs.Quantities.{isType, missionTime}
+use Rattle.rules.specs.Quantities.{isType}
 use Rattle.rules.specs.Shown.{keptOf}
 use Rattle.rules.specs.Soundness.{Sound, StartedBy, MeasuredBy, KeptInRange, NumbersBelow8}
 use Rattle.step.specs.Sound.{at, all, listOf, startedBy, measuredBy, currentKept, below8, liveTests, storesTests, soundLive, soundStores, sound}

@@ -2,7 +2,7 @@
 -- itself, and nothing else of the record.
 use Prim.Native.Nat.{ℕ, _-_}
 use mathlib.Core.Bool.{Bool, true, false, not, cond, _&&_, _||_}
-use mathlib.Core.List.{List, [], _∷_}
+use mathlib.Core.List.{List}
 use lib.Dec.{leb}
 use Rattle.rules.specs.declared.units.Milliseconds.{Milliseconds}
 use Rattle.rules.specs.declared.reading.Reading.{Reading}

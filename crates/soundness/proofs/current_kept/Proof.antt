@@ -1,0 +1,24 @@
+use mathlib.Core.Path.{_≡_}
+use mir.Syntax.{w32}
+use mir.Val.{toZ, ofZ}
+use borrow.Author.Needs.{needs}
+use Rattle.soundness.proofs.current_kept.Statement.{statement}
+use Rattle.soundness.proofs.current_kept.Tie as tie
+
+enum-told : tie.Need-enum-told
+enum-told c = search needs
+
+enum-known-p : tie.Need-enum-known-p
+enum-known-p c = search needs
+
+returns : tie.Need-returns
+returns c = search needs
+
+returns-2 : tie.Need-returns-2
+returns-2 c =
+    let i = c .before .before .before .before .before .p .given .0 .1 .0 .0 in
+    let same : toZ w32 (ofZ w32 i) ≡ i = search needs in
+    rw (same, c .before .before .before .before .before .p .given .1)
+
+pub current-kept-spec : {M : Type 1} → statement M
+current-kept-spec = tie.close (tie.spec enum-told enum-known-p returns returns-2)

@@ -1,0 +1,37 @@
+-- The contactor's test as the code makes it: what is liftable is known for each number. Assumes nothing.
+use mathlib.Core.Path.{_≡_, refl, sym}
+use mathlib.Core.Bool.{Bool, true, false, not, _&&_, _||_}
+use mathlib.Core.List.{List}
+use Prim.Native.Nat.{ℕ}
+use Rattle.rules.specs.declared.states.Contactor.the-variants.{Open, Closed}
+use Rattle.rules.specs.declared.tracking.ProtectionState.{ProtectionState}
+use Rattle.rules.specs.declared.battery.Record.{Record}
+use Rattle.rules.specs.Protections.{protection}
+use Rattle.step.specs.Sound.{at}
+use Rattle.step.specs.Close.{lifted, closes, contactor}
+
+and-true : (b : Bool) → (b && true) ≡ b
+and-true true = refl
+and-true false = refl
+
+-- override lifts nothing of a protection that is not liftable
+fixed : (t on : Bool) → (not t || (on && false)) ≡ not t
+fixed true true = refl
+fixed true false = refl
+fixed false on = refl
+
+pub lifted-is : (battery : ℕ) (on : Bool) (p : List ProtectionState)
+    → (not (at p 0 .tripped)
+    && ((not (at p 1 .tripped) || on)
+    && (not (at p 2 .tripped)
+    && ((not (at p 3 .tripped) || on)
+    && (not (at p 4 .tripped) && (not (at p 5 .tripped) && ((not (at p 6 .tripped) || on) && (not (at p 7 .tripped) || on))))))))
+    ≡ lifted battery on p
+unfolding protection
+lifted-is battery on p = sym (simp (fixed, and-true))
+
+pub closed : (r : Record) (b : Bool) → b ≡ closes (r .live) → b ≡ true → Closed ≡ contactor r
+closed r b e h = rw (← e, h) refl
+
+pub opened : (r : Record) (b : Bool) → b ≡ closes (r .live) → b ≡ false → Open ≡ contactor r
+opened r b e h = rw (← e, h) refl

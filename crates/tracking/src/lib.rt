@@ -1,0 +1,89 @@
+// One protection, tracked from one measurement to the next: its longest span that ends now, and whether it is tripped.
+ghost use mathlib.Core.Path.{_≡_};
+ghost use Prim.Native.Nat.{_-_};
+ghost use Rattle.rules.specs.Quantities.{ms};
+ghost use Rattle.step.specs.Track.{beyondSince, withinSince, spanAt, trippedAt, tracked};
+use rules::tracking::ProtectionState;
+use rules::tracking::Span;
+use rules::units::Milliseconds;
+
+fn beyond_since(t: Milliseconds, span: Span) -> Span
+    ensures { λ s. ⌜ s ≡ beyondSince t span ⌝ }
+{
+    match span {
+        Span::Idle => Span::Beyond(t),
+        Span::Beyond(start) => Span::Beyond(start),
+        Span::Within(_) => Span::Beyond(t),
+    }
+}
+
+fn within_since(t: Milliseconds, span: Span) -> Span
+    ensures { λ s. ⌜ s ≡ withinSince t span ⌝ }
+{
+    match span {
+        Span::Idle => Span::Within(t),
+        Span::Beyond(_) => Span::Within(t),
+        Span::Within(start) => Span::Within(start),
+    }
+}
+
+fn span_at(beyond: bool, within: bool, t: Milliseconds, span: Span) -> Span
+    ensures { λ s. ⌜ s ≡ spanAt beyond within t span ⌝ }
+{
+    if beyond {
+        return beyond_since(t, span);
+    }
+    if within {
+        return within_since(t, span);
+    }
+    Span::Idle
+}
+
+// Zero where the start is later.
+fn elapsed(start: Milliseconds, t: Milliseconds) -> Milliseconds
+    ensures { λ d. ⌜ d ≡ ms (t .0 - start .0) ⌝ }
+{
+    if start.0 <= t.0 {
+        return Milliseconds(t.0 - start.0);
+    }
+    Milliseconds(0)
+}
+
+fn tripped_at(
+    hold: Milliseconds,
+    release: Milliseconds,
+    t: Milliseconds,
+    span: Span,
+    was: bool,
+) -> bool
+    ensures { λ r. ⌜ r ≡ trippedAt hold release t span was ⌝ }
+{
+    match span {
+        Span::Idle => was,
+        Span::Beyond(start) => {
+            let length = elapsed(start, t);
+            (hold.0 <= length.0) | was
+        }
+        Span::Within(start) => {
+            let length = elapsed(start, t);
+            !(release.0 <= length.0) & was
+        }
+    }
+}
+
+// By whether the measurement is plausible and beyond, whether it is plausible and within, and its time.
+pub fn track(
+    beyond: bool,
+    within: bool,
+    hold: Milliseconds,
+    release: Milliseconds,
+    t: Milliseconds,
+    s: ProtectionState,
+) -> ProtectionState
+    ensures { λ r. ⌜ r ≡ tracked beyond within hold release t s ⌝ }
+{
+    let before = s.span;
+    let span = span_at(beyond, within, t, before);
+    let tripped = tripped_at(hold, release, t, span, s.tripped);
+    ProtectionState { span, tripped }
+}

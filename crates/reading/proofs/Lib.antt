@@ -1,0 +1,2 @@
+-- Laws that the proofs here cite, and that callers of these functions may.
+pub mod Laws

@@ -1,0 +1,61 @@
+use Rattle.reading.proofs.Laws.{of-eight}
+use Rattle.rules.specs.Protections.{higher, lower, extremes}
+use borrow.Author.Needs.{needs}
+use Rattle.reading.proofs.extremes.Statement.{statement}
+use Rattle.reading.proofs.extremes.Tie as tie
+
+higher-requires : tie.Need-higher-requires
+higher-requires c κs = search needs
+
+highest-requires : tie.Need-highest-requires
+highest-requires c κs = search needs
+
+lower-requires : tie.Need-lower-requires
+lower-requires c κs = search needs
+
+lowest-requires : tie.Need-lowest-requires
+lowest-requires c κs = search needs
+
+highest-requires-2 : tie.Need-highest-requires-2
+highest-requires-2 c κs = search needs
+
+lowest-requires-2 : tie.Need-lowest-requires-2
+lowest-requires-2 c κs = search needs
+
+hottest-requires : tie.Need-hottest-requires
+hottest-requires c κs = search needs
+
+coldest-requires : tie.Need-coldest-requires
+coldest-requires c κs = search needs
+
+returns : tie.Need-returns
+unfolding extremes
+returns c =
+    let r = c .before .before .before .before .before .before .before .before .args .r in
+    let high =
+    of-eight higher (r .cell0) (r .cell1) (r .cell2) (r .cell3) (r .cell4) (r .cell5) (r .cell6) (r .cell7) _ _ _
+    (c .before .before .before .before .before .before .before .higher .ensures)
+    (c .before .before .before .before .before .before .highest .ensures)
+    (c .before .before .before .highest2 .ensures)
+    in
+    let low =
+    of-eight lower (r .cell0) (r .cell1) (r .cell2) (r .cell3) (r .cell4) (r .cell5) (r .cell6) (r .cell7) _ _ _
+    (c .before .before .before .before .before .lower .ensures)
+    (c .before .before .before .before .lowest .ensures)
+    (c .before .before .lowest2 .ensures)
+    in
+    λ i. record { highest = high i; lowest = low i; hottest = c .before .hottest .ensures i; coldest = c .coldest .ensures i }
+
+pub extremes-spec : {M : Type 1} → statement M
+extremes-spec =
+    tie.close
+    (tie.spec
+    higher-requires
+    highest-requires
+    lower-requires
+    lowest-requires
+    highest-requires-2
+    lowest-requires-2
+    hottest-requires
+    coldest-requires
+    returns)

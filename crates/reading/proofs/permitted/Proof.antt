@@ -1,0 +1,89 @@
+use Prim.Native.Nat.{_≤_, _<_, _+_}
+use mathlib.Core.Path.{_≡_, ap, _∙_}
+use native.Mathlib.Nat.{mul-le-mul}
+use native.Mathlib.Omega.{arith}
+use lib.IntN.{pos, natAbs}
+use mir.Syntax.{w16, w32}
+use mir.Val.{toZ, ofZ, SFits}
+use mir.Facts.{fits-natAbs, fits-le, fits-lit, toZ-pos}
+use Rattle.rules.specs.Quantities.{mA}
+use Rattle.rules.specs.Protections.{permitted}
+use Rattle.reading.proofs.Laws.{not-negative, below-zero, below-250, from-250, curve-small, curve-below, curve-read}
+use borrow.Author.Needs.{needs}
+use Rattle.reading.proofs.permitted.Statement.{statement}
+use Rattle.reading.proofs.permitted.Tie as tie
+
+charge-rating-requires : tie.Need-charge-rating-requires
+charge-rating-requires c κs = search needs
+
+returns : tie.Need-returns
+unfolding permitted
+returns c =
+    let z = c .before .before .before .args .coldest .0 in
+    let back : toZ w16 (ofZ w16 z) ≡ z = search needs in
+    ap (λ n. mA (pos n)) (below-zero _ z (rw back at (c .if1 .taken)))
+
+cast-n : tie.Need-cast-n
+cast-n c =
+    let z = c .before .before .before .args .coldest .0 in
+    let back : toZ w16 (ofZ w16 z) ≡ z = search needs in
+    let fits : SFits w16 z = search needs in
+    rw back (not-negative z (rw back at (c .if1 .left)), fits-natAbs tt fits)
+
+add-k : tie.Need-add-k
+add-k c = search needs
+
+cast-t8 : tie.Need-cast-t8
+cast-t8 c = search needs
+
+mul-t9 : tie.Need-mul-t9
+mul-t9 c =
+    let low : natAbs (toZ w16 (ofZ w16 (c .before .before .before .before .args .coldest .0))) + 50 ≤ 300 = omega (arith, c .if2 .taken) in
+    fits-le (mul-le-mul low low) (fits-lit tt)
+
+mul-t10 : tie.Need-mul-t10
+mul-t10 c =
+    fits-le (curve-small _ _ (c .before .before .before .charge-rating .ensures .1) (c .if2 .taken)) (fits-lit tt)
+
+cast-t12 : tie.Need-cast-t12
+cast-t12 c =
+    record { sfits = omega (arith, curve-below _ _ (c .before .before .before .charge-rating .ensures .1) (c .if2 .taken)) }
+
+returns-2 : tie.Need-returns-2
+unfolding permitted
+returns-2 c =
+    let z = c .before .before .before .before .args .coldest .0 in
+    let back : toZ w16 (ofZ w16 z) ≡ z = search needs in
+    let rated = c .before .before .before .charge-rating .ensures in
+    let few : natAbs z < 250 = rw back at (c .if2 .taken) in
+    rw (back, curve-read _ _ (rated .1) few, rated .0)
+    (ap (λ n. mA (pos n)) (below-250 _ z (rw back at (c .before .if1 .left)) few))
+
+cast-t13 : tie.Need-cast-t13
+cast-t13 c = search needs
+
+returns-3 : tie.Need-returns-3
+unfolding permitted
+returns-3 c =
+    let z = c .before .before .before .before .args .coldest .0 in
+    let back : toZ w16 (ofZ w16 z) ≡ z = search needs in
+    let rated = c .before .before .before .charge-rating .ensures in
+    ap mA
+    (toZ-pos w32 (omega (arith, rated .1))
+    ∙ ap pos (rated .0 ∙ from-250 _ z (rw back at (c .before .if1 .left)) (rw back at (c .if2 .left))))
+
+pub permitted-spec : {M : Type 1} → statement M
+permitted-spec =
+    tie.close
+    (tie.spec
+    charge-rating-requires
+    returns
+    cast-n
+    add-k
+    cast-t8
+    mul-t9
+    mul-t10
+    cast-t12
+    returns-2
+    cast-t13
+    returns-3)

@@ -1,0 +1,190 @@
+// One measurement: which sensors failed, its extremes, and the charge current that it permits.
+ghost use mathlib.Core.Bool.{cond};
+ghost use mathlib.Core.List.{[], _∷_};
+ghost use mathlib.Core.Path.{_≡_};
+ghost use Prim.Native.Nat.{_≤_};
+ghost use lib.Count.{ones};
+ghost use lib.IntN.{pos};
+ghost use Rattle.rules.specs.Quantities.{mA, chargeRating};
+ghost use Rattle.rules.specs.Test.{cellInRange, currentInRange, temperatureInRange, plausible, maskOf, failedMask};
+ghost use Rattle.rules.specs.Protections.{higher, lower, hotter, colder, picked, extremes, permitted};
+use rules::reading::Extremes;
+use rules::reading::Reading;
+use rules::units::DeciCelsius;
+use rules::units::Milliamperes;
+use rules::units::Millivolts;
+
+// ---- the built-in test
+
+fn cell_in_range(v: Millivolts) -> bool
+    ensures { λ r. ⌜ r ≡ cellInRange v ⌝ }
+{
+    (500 <= v.0) & (v.0 <= 5000)
+}
+
+fn current_in_range(i: Milliamperes) -> bool
+    ensures { λ r. ⌜ r ≡ currentInRange i ⌝ }
+{
+    (-2000000 <= i.0) & (i.0 <= 2000000)
+}
+
+fn temperature_in_range(t: DeciCelsius) -> bool
+    ensures { λ r. ⌜ r ≡ temperatureInRange t ⌝ }
+{
+    (-540 <= t.0) & (t.0 <= 880)
+}
+
+// The bit of a sensor, by its weight: set where its value is out of range.
+fn bit(ok: bool, weight: u16) -> u16
+    ensures is { λ r. ⌜ r ≡ cond ok 0 weight ⌝ }
+    ensures small { λ r. ⌜ r ≤ weight ⌝ }
+{
+    if ok { 0 } else { weight }
+}
+
+// The mask of four sensors of a kind.
+fn cells_mask(a: Millivolts, b: Millivolts, c: Millivolts, d: Millivolts) -> u16
+    ensures is { λ m. ⌜ m ≡ maskOf (cellInRange a ∷ cellInRange b ∷ cellInRange c ∷ cellInRange d ∷ []) ⌝ }
+    ensures small { λ m. ⌜ m ≤ 15 ⌝ }
+{
+    bit(cell_in_range(a), 1)
+        + bit(cell_in_range(b), 2)
+        + bit(cell_in_range(c), 4)
+        + bit(cell_in_range(d), 8)
+}
+
+fn temperatures_mask(a: DeciCelsius, b: DeciCelsius, c: DeciCelsius, d: DeciCelsius) -> u16
+    ensures is { λ m. ⌜ m ≡ maskOf (temperatureInRange a ∷ temperatureInRange b ∷ temperatureInRange c ∷ temperatureInRange d ∷ []) ⌝ }
+    ensures small { λ m. ⌜ m ≤ 15 ⌝ }
+{
+    bit(temperature_in_range(a), 1)
+        + bit(temperature_in_range(b), 2)
+        + bit(temperature_in_range(c), 4)
+        + bit(temperature_in_range(d), 8)
+}
+
+pub fn failed_mask(r: Reading) -> u16
+    ensures { λ m. ⌜ m ≡ failedMask r ⌝ }
+{
+    cells_mask(r.cell0, r.cell1, r.cell2, r.cell3)
+        + cells_mask(r.cell4, r.cell5, r.cell6, r.cell7) * 16
+        + bit(current_in_range(r.current), 256)
+        + temperatures_mask(
+            r.temperature0,
+            r.temperature1,
+            r.temperature2,
+            r.temperature3,
+        )
+            * 512
+}
+
+pub fn plausible(r: Reading) -> bool
+    ensures { λ ok. ⌜ ok ≡ plausible r ⌝ }
+{
+    failed_mask(r) == 0
+}
+
+pub fn failed_count(mask: u16) -> u32
+    ensures { λ n. ⌜ n ≡ ones mask ⌝ }
+{
+    u16::count_ones(mask)
+}
+
+// ---- the extremes
+
+fn higher(a: Millivolts, b: Millivolts) -> Millivolts
+    ensures { λ r. ⌜ r ≡ higher a b ⌝ }
+{
+    if a.0 < b.0 { b } else { a }
+}
+
+fn lower(a: Millivolts, b: Millivolts) -> Millivolts
+    ensures { λ r. ⌜ r ≡ lower a b ⌝ }
+{
+    if b.0 < a.0 { b } else { a }
+}
+
+fn hotter(a: DeciCelsius, b: DeciCelsius) -> DeciCelsius
+    ensures { λ r. ⌜ r ≡ hotter a b ⌝ }
+{
+    if a.0 < b.0 { b } else { a }
+}
+
+fn colder(a: DeciCelsius, b: DeciCelsius) -> DeciCelsius
+    ensures { λ r. ⌜ r ≡ colder a b ⌝ }
+{
+    if b.0 < a.0 { b } else { a }
+}
+
+// Of four; the last may be what others left.
+fn highest(a: Millivolts, b: Millivolts, c: Millivolts, d: Millivolts) -> Millivolts
+    ensures { λ r. ⌜ r ≡ picked higher a (b ∷ c ∷ d ∷ []) ⌝ }
+{
+    higher(a, higher(b, higher(c, d)))
+}
+
+fn lowest(a: Millivolts, b: Millivolts, c: Millivolts, d: Millivolts) -> Millivolts
+    ensures { λ r. ⌜ r ≡ picked lower a (b ∷ c ∷ d ∷ []) ⌝ }
+{
+    lower(a, lower(b, lower(c, d)))
+}
+
+fn hottest(a: DeciCelsius, b: DeciCelsius, c: DeciCelsius, d: DeciCelsius) -> DeciCelsius
+    ensures { λ r. ⌜ r ≡ picked hotter a (b ∷ c ∷ d ∷ []) ⌝ }
+{
+    hotter(a, hotter(b, hotter(c, d)))
+}
+
+fn coldest(a: DeciCelsius, b: DeciCelsius, c: DeciCelsius, d: DeciCelsius) -> DeciCelsius
+    ensures { λ r. ⌜ r ≡ picked colder a (b ∷ c ∷ d ∷ []) ⌝ }
+{
+    colder(a, colder(b, colder(c, d)))
+}
+
+pub fn extremes(r: Reading) -> Extremes
+    ensures { λ e. ⌜ e ≡ extremes r ⌝ }
+{
+    let high = highest(r.cell3, r.cell4, r.cell5, higher(r.cell6, r.cell7));
+    let low = lowest(r.cell3, r.cell4, r.cell5, lower(r.cell6, r.cell7));
+    Extremes {
+        highest: highest(r.cell0, r.cell1, r.cell2, high),
+        lowest: lowest(r.cell0, r.cell1, r.cell2, low),
+        hottest: hottest(
+            r.temperature0,
+            r.temperature1,
+            r.temperature2,
+            r.temperature3,
+        ),
+        coldest: coldest(
+            r.temperature0,
+            r.temperature1,
+            r.temperature2,
+            r.temperature3,
+        ),
+    }
+}
+
+// ---- the permitted charge current
+
+fn charge_rating(battery: u8) -> u32
+    ensures is { λ r. ⌜ r ≡ chargeRating battery ⌝ }
+    ensures small { λ r. ⌜ r ≤ 90_000 ⌝ }
+{
+    if battery == 3 { 90000 } else { 60000 }
+}
+
+pub fn permitted(battery: u8, coldest: DeciCelsius) -> Milliamperes
+    ensures { λ r. ⌜ r ≡ mA (pos (permitted battery coldest)) ⌝ }
+{
+    let rating = charge_rating(battery);
+    let c = coldest.0;
+    if c < 0 {
+        return Milliamperes(0);
+    }
+    let n = c as u64;
+    if n < 250 {
+        let k = n + 50;
+        return Milliamperes(((rating as u64) * (k * k) / 90000) as i32);
+    }
+    Milliamperes(rating as i32)
+}

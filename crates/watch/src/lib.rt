@@ -1,0 +1,94 @@
+// What a measurement makes of what is watched: test, failed sensors, spans and trips. It sees battery, time, reading and itself alone.
+ghost use mathlib.Core.Path.{_≡_};
+ghost use mathlib.Core.Bool.{cond};
+ghost use Rattle.rules.specs.declared.states.TestResult.the-variants.{Passed, Failed as TestFailed};
+ghost use Rattle.rules.specs.declared.tracking.Previous.the-variants.{Nothing, Frame};
+ghost use Rattle.step.specs.Track.{observe as observeOf};
+ghost use Rattle.watch.specs.Sides.{trackBy, trackSides};
+use protection::Side;
+use rules::reading::Reading;
+use rules::states::TestResult;
+use rules::tracking::Previous;
+use rules::tracking::ProtectionState;
+use rules::tracking::Watch;
+use rules::units::Milliamperes;
+use rules::units::Milliseconds;
+
+fn track_number(
+    number: u8,
+    plausible: bool,
+    side: Side,
+    t: Milliseconds,
+    s: ProtectionState,
+) -> ProtectionState
+    ensures { λ r. ⌜ r ≡ trackBy number plausible side t s ⌝ }
+{
+    let hold = protection::hold(number);
+    let release = protection::release(number);
+    tracking::track(
+        plausible & side.beyond,
+        plausible & side.within,
+        hold,
+        release,
+        t,
+        s,
+    )
+}
+
+fn track_sides(
+    plausible: bool,
+    sides: [Side; 8],
+    t: Milliseconds,
+    states: [ProtectionState; 8],
+) -> [ProtectionState; 8]
+    ensures { λ a. ⌜ a ≡ trackSides plausible sides t states ⌝ }
+{
+    [
+        track_number(0, plausible, sides[0], t, states[0]),
+        track_number(1, plausible, sides[1], t, states[1]),
+        track_number(2, plausible, sides[2], t, states[2]),
+        track_number(3, plausible, sides[3], t, states[3]),
+        track_number(4, plausible, sides[4], t, states[4]),
+        track_number(5, plausible, sides[5], t, states[5]),
+        track_number(6, plausible, sides[6], t, states[6]),
+        track_number(7, plausible, sides[7], t, states[7]),
+    ]
+}
+
+fn previous_of(plausible: bool, t: Milliseconds, i: Milliamperes) -> Previous
+    ensures { λ p. ⌜ p ≡ cond plausible (Frame t i) Nothing ⌝ }
+{
+    if plausible {
+        return Previous::Frame(t, i);
+    }
+    Previous::Nothing
+}
+
+fn test_of(plausible: bool) -> TestResult
+    ensures { λ r. ⌜ r ≡ cond plausible Passed TestFailed ⌝ }
+{
+    if plausible {
+        return TestResult::Passed;
+    }
+    TestResult::Failed
+}
+
+pub fn observe(battery: u8, t: Milliseconds, r: Reading, w: Watch) -> Watch
+    ensures { λ n. ⌜ n ≡ observeOf battery t r w ⌝ }
+{
+    let mask = reading::failed_mask(r);
+    let failed = reading::failed_count(mask);
+    let plausible = reading::plausible(r);
+    let sides = protection::sides(battery, r);
+    let states = w.protections;
+    let protections = track_sides(plausible, sides, t, states);
+    let test = test_of(plausible);
+    let previous = previous_of(plausible, t, r.current);
+    Watch {
+        test,
+        mask,
+        failed,
+        previous,
+        protections,
+    }
+}

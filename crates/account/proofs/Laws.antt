@@ -1,7 +1,7 @@
 -- A signed current as the code reads it, and the products that it goes into. Assumes nothing.
 use mathlib.Core.Path.{_≡_, refl, subst, ap, _∙_}
 use mathlib.Core.Bool.{true, false}
-use Prim.Native.Nat.{ℕ, _*_, _<_, _^_}
+use Prim.Native.Nat.{ℕ, _*_, _<_, _≤_, _^_}
 use native.Mathlib.Nat.{mul-le-mul, le-of-lt}
 use native.Mathlib.Omega.{arith}
 use borrow.Author.Tests.{ltb-true}
@@ -23,6 +23,10 @@ read-wide f = toZ-ofZ (sfits-widen tt f)
 -- a size and a time of 32 bits have a product of 64
 pub product-fits : (z : ℤ) (n : ℕ) → SFits w32 z → n < 2 ^ 32 → Fits w64 (natAbs z * n)
 product-fits z n f h = fits-le (mul-le-mul (natAbs-le z (f .sfits)) (le-of-lt h)) (fits-lit tt)
+
+-- at most 2 ^ 31 × 2 ^ 32
+pub product-small : (z : ℤ) (n : ℕ) → SFits w32 z → n < 2 ^ 32 → natAbs z * n ≤ 9_223_372_036_854_775_808
+product-small z n f h = mul-le-mul (natAbs-le z (f .sfits)) (le-of-lt h)
 
 module _ (z : ℤ) (negative : ltZ z (pos 0) ≡ true) where
   pub no-inflow : (n : ℕ) → 0 ≡ inflow z n

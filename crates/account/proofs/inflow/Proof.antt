@@ -1,8 +1,9 @@
+use Prim.Native.Nat.{zero-le}
 use mir.Syntax.{w32}
 use mir.Val.{SFits}
 use mir.Facts.{fits-natAbs}
 use borrow.Author.Needs.{needs}
-use Rattle.account.proofs.Laws.{read, product-fits, no-inflow, is-inflow, not-negative}
+use Rattle.account.proofs.Laws.{read, product-fits, product-small, no-inflow, is-inflow, not-negative}
 use Rattle.account.proofs.inflow.Statement.{statement}
 use Rattle.account.proofs.inflow.Tie as tie
 
@@ -10,7 +11,7 @@ returns : tie.Need-returns
 returns c =
     let z = c .before .before .args .i .0 in
     let f : SFits w32 z = search needs in
-    no-inflow z (rw (read f) at (c .if1 .taken)) _
+    (no-inflow z (rw (read f) at (c .if1 .taken)) _, zero-le)
 
 cast-result : tie.Need-cast-result
 cast-result c =
@@ -28,7 +29,7 @@ returns-2 : tie.Need-returns-2
 returns-2 c =
     let z = c .before .before .args .i .0 in
     let f : SFits w32 z = search needs in
-    rw (read f) (is-inflow z (rw (read f) at (c .if1 .left)) _)
+    rw (read f) (is-inflow z (rw (read f) at (c .if1 .left)) _, product-small z (c .before .before .args .elapsed) f (c .before .before .fits .elapsed .fits))
 
 pub inflow-spec : {M : Type 1} → statement M
 inflow-spec = tie.close (tie.spec returns cast-result mul-result returns-2)

@@ -1,8 +1,9 @@
+use Prim.Native.Nat.{zero-le}
 use mir.Syntax.{w32}
 use mir.Val.{SFits}
 use mir.Facts.{fits-natAbs, sfits-widen}
 use borrow.Author.Needs.{needs}
-use Rattle.account.proofs.Laws.{read, product-fits, is-outflow, no-outflow, negation-fits, negation-read}
+use Rattle.account.proofs.Laws.{read, product-fits, product-small, is-outflow, no-outflow, negation-fits, negation-read}
 use Rattle.account.proofs.outflow.Statement.{statement}
 use Rattle.account.proofs.outflow.Tie as tie
 
@@ -34,13 +35,13 @@ returns : tie.Need-returns
 returns c =
     let z = c .before .before .args .i .0 in
     let f : SFits w32 z = search needs in
-    rw (negation-read z (rw (read f) at (c .if1 .taken)) f) (is-outflow z (rw (read f) at (c .if1 .taken)) _)
+    rw (negation-read z (rw (read f) at (c .if1 .taken)) f) (is-outflow z (rw (read f) at (c .if1 .taken)) _, product-small z (c .before .before .args .elapsed) f (c .before .before .fits .elapsed .fits))
 
 returns-2 : tie.Need-returns-2
 returns-2 c =
     let z = c .before .before .args .i .0 in
     let f : SFits w32 z = search needs in
-    no-outflow z (rw (read f) at (c .if1 .left)) _
+    (no-outflow z (rw (read f) at (c .if1 .left)) _, zero-le)
 
 pub outflow-spec : {M : Type 1} → statement M
 outflow-spec = tie.close (tie.spec cast-n sub-n cast-result mul-result returns returns-2)

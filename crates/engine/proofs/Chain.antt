@@ -1,0 +1,100 @@
+-- The claims, of the code: over every chain of results that the contracts of `fresh`, `apply` and `contactor` allow, answers included.
+-- Assumes nothing.
+use mathlib.Core.Path.{_≡_, refl, ap, ap₂, _∙_}
+use mathlib.Core.List.{List, [], _∷_}
+use Prim.Native.Nat.{ℕ}
+use Rattle.rules.specs.declared.states.Contactor.{Contactor}
+use Rattle.rules.specs.declared.calls.Event.{Event}
+use Rattle.rules.specs.declared.battery.Record.{Record}
+use Rattle.rules.specs.declared.answers.Fresh.{Fresh}
+use Rattle.rules.specs.declared.answers.Outcome.{Outcome}
+use Rattle.rules.specs.Claims.{AfterEveryList, AnyTwoLists, FreshOf, OnEveryRecord}
+use Rattle.step.specs.Fresh.{fresh}
+use Rattle.step.specs.Close.{contactor}
+use Rattle.step.specs.Call.{call, run, answers}
+use Rattle.step.proofs.Claims.{StepRuns, fresh-of, after-every-list, any-two-lists, on-every-record}
+use Rattle.engine.proofs.apply.Reads as apply-reads
+use Rattle.engine.proofs.contactor.Reads as contactor-reads
+use Rattle.engine.proofs.fresh.Reads as fresh-reads
+
+-- what the functions may give back, as their contracts in src/lib.rt have it
+abbrev pub Starts : ℕ → Fresh → Type 0
+Starts battery f = fresh-reads.Post tt (battery, tt) f (battery, tt)
+
+abbrev pub Gives : Record → Event → Outcome → Type 0
+Gives r e o = apply-reads.Post tt (r, (e, tt)) o (r, (e, tt))
+
+abbrev pub Has : Record → Contactor → Type 0
+Has r c = contactor-reads.Post tt (r, tt) c (r, tt)
+
+-- calls one after the other: each gets the record that the one before it left
+pub data Ran : Record → List Event → List ℕ → Record → Type 0 where
+  done : {r : Record} → Ran r [] [] r
+  called : {r q : Record} {e : Event} {es : List Event} {ns : List ℕ} (o : Outcome) → Gives r e o → Ran (o .after) es ns q
+      → Ran r (e ∷ es) (o .number ∷ ns) q
+
+-- the code as an engine
+pub record CodeRun (battery : ℕ) (calls : List Event) (given : List ℕ) (after : Record) (closing : Contactor) : Type 0 where
+  pub begin : Fresh
+  pub starts : Starts battery begin
+  pub ran : Ran (begin .start) calls given after
+  pub has : Has after closing
+
+-- ---- such a chain is a run of the step
+
+run-is : {r q : Record} {es : List Event} {ns : List ℕ} → Ran r es ns q → q ≡ run r es
+run-is done = refl
+run-is (called {es = es} o g c) = run-is c ∙ ap (λ (x : Outcome). run (x .after) es) g
+
+answers-are : {r q : Record} {es : List Event} {ns : List ℕ} → Ran r es ns q → ns ≡ answers r es
+answers-are done = refl
+answers-are (called {es = es} o g c) = ap₂ _∷_ (ap (λ (x : Outcome). x .number) g) (answers-are c ∙ ap (λ (x : Outcome). answers (x .after) es) g)
+
+step-run : (battery : ℕ) (calls : List Event) (given : List ℕ) (after : Record) (closing : Contactor)
+    → CodeRun battery calls given after closing → StepRuns battery calls given after closing
+step-run battery calls given after closing c = (
+  answers-are (c .ran) ∙ ap (λ (f : Fresh). answers (f .start) calls) (c .starts),
+  same,
+  c .has ∙ ap contactor same,
+)
+  where
+    same : after ≡ run (fresh battery .start) calls
+    same = run-is (c .ran) ∙ ap (λ (f : Fresh). run (f .start) calls) (c .starts)
+
+-- ---- the claims
+
+pub code-after-every-list : AfterEveryList CodeRun
+code-after-every-list battery type calls given after closing c =
+    after-every-list battery type calls given after closing (step-run battery calls given after closing c)
+
+pub code-any-two-lists : AnyTwoLists CodeRun
+code-any-two-lists battery type calls₁ calls₂ alike given₁ given₂ after₁ after₂ closing₁ closing₂ c₁ c₂ =
+    any-two-lists battery type calls₁ calls₂ alike given₁ given₂ after₁ after₂ closing₁ closing₂
+    (step-run battery calls₁ given₁ after₁ closing₁ c₁) (step-run battery calls₂ given₂ after₂ closing₂ c₂)
+
+pub code-fresh : (battery : ℕ) (f : Fresh) → Starts battery f → FreshOf battery (f .number) (f .start)
+code-fresh battery f s = rw s (fresh-of battery)
+
+-- one call of the code
+pub record CodeCall (before : Record) (e : Event) (given : ℕ) (after : Record) : Type 0 where
+  pub outcome : Outcome
+  pub gives : Gives before e outcome
+  pub number : given ≡ outcome .number
+  pub left : after ≡ outcome .after
+
+pub code-on-every-record : OnEveryRecord CodeCall
+code-on-every-record before e given after c =
+    on-every-record before e given after (
+      c .number ∙ ap (λ (o : Outcome). o .number) (c .gives),
+      c .left ∙ ap (λ (o : Outcome). o .after) (c .gives),
+    )
+
+-- ---- and there is one, for every type and list
+
+ran : (r : Record) (es : List Event) → Ran r es (answers r es) (run r es)
+ran r [] = done
+ran r (e ∷ es) = called (call r e) refl (ran (call r e .after) es)
+
+pub some-run : (battery : ℕ) (calls : List Event)
+    → CodeRun battery calls (answers (fresh battery .start) calls) (run (fresh battery .start) calls) (contactor (run (fresh battery .start) calls))
+some-run battery calls = record { begin = fresh battery; starts = refl; ran = ran (fresh battery .start) calls; has = refl }

@@ -1,0 +1,138 @@
+-- The engine's functions as the code goes through them, and its two parts put together. Assumes nothing.
+use mathlib.Core.Path.{_≡_, refl, sym, ap, _∙_}
+use mathlib.Core.Bool.{Bool, true, false, cond, _&&_, true≢false}
+use mathlib.Core.List.{List}
+use Prim.Native.Nat.{ℕ, zero, suc, _+_, _-_}
+use native.Mathlib.Nat.{add-zero}
+use lib.IntN.{ℤ}
+use Rattle.rules.specs.declared.reading.Reading.{Reading}
+use Rattle.rules.specs.declared.tracking.ProtectionState.{ProtectionState}
+use Rattle.rules.specs.declared.units.Milliamperes.{Milliamperes}
+use Rattle.rules.specs.declared.units.Milliseconds.{Milliseconds}
+use Rattle.rules.specs.declared.calls.Event.{Event}
+use Rattle.rules.specs.declared.calls.Event.the-variants.{Measurement, PowerOn, PowerLoss, ContactorCommand, StateRequest, BattleOverride, ClearLongTerm}
+use Rattle.rules.specs.declared.tracking.Previous.{Previous}
+use Rattle.rules.specs.declared.tracking.Previous.the-variants.{Nothing, Frame}
+use Rattle.rules.specs.declared.stores.Stores.{Stores}
+use Rattle.rules.specs.declared.battery.Tally.{Tally}
+use Rattle.rules.specs.declared.battery.Live.{Live}
+use Rattle.rules.specs.declared.battery.Record.{Record}
+use Rattle.rules.specs.declared.answers.Outcome.{Outcome}
+use Rattle.step.specs.Sound.{soundLive, soundStores}
+use Rattle.step.specs.Refusal.{refusal, refusalLive}
+use Rattle.step.specs.Charge.{inflow, outflow, charge}
+use Rattle.step.specs.Call.{advanceLive, advanceStores, advance, answer, call}
+use Rattle.step.specs.Push.{pushAll}
+use Rattle.protection.specs.Rows.{valuesOf}
+use Rattle.store.specs.Changes.{pushAllOf}
+use Rattle.store.proofs.Measured.{unchanged, push-all-of}
+use Rattle.engine.specs.declared.Judged.{Judged}
+use Rattle.engine.specs.Judging.{touches, judgedBy, judged, joined}
+
+-- ---- the accounts
+
+module _ (previous : Previous) (plausible : Bool) (t : Milliseconds) (n : Tally) where
+  pub charged : (start : Milliseconds) (i : Milliamperes) (d a b : ℕ) → previous ≡ Frame start i → plausible ≡ true → d ≡ t .0 - start .0
+      → a ≡ inflow (i .0) d → b ≡ outflow (i .0) d
+      → _≡_ {A = Tally} (record { commands = n .commands; charged = record { 0 = n .charged .0 + a }; discharged = record { 0 = n .discharged .0 + b } })
+      (charge previous plausible t n)
+  unfolding charge
+  charged start i d a b e p d-is a-is b-is = rw (e, p, a-is, b-is, d-is) refl
+
+  pub not-charged : (start : Milliseconds) (i : Milliamperes) → previous ≡ Frame start i → plausible ≡ false → n ≡ charge previous plausible t n
+  unfolding charge
+  not-charged start i e p = simp (e, p, add-zero)
+
+  pub no-neighbour : previous ≡ Nothing → n ≡ charge previous plausible t n
+  unfolding charge
+  no-neighbour e = simp (e, add-zero)
+
+-- ---- what a measurement writes
+
+pub pushed : (battery : ℕ) (t : Milliseconds) (r : Reading) (before after : List ProtectionState) (s : Stores) (values : List ℤ) → values ≡ valuesOf battery r
+    → (n : Stores) → n ≡ pushAllOf t values before after s → n ≡ pushAll battery t r before after s
+unfolding valuesOf
+pushed battery t r before after s values v n e = e ∙ ap (λ (x : List ℤ). pushAllOf t x before after s) v ∙ push-all-of battery t r before after s
+
+-- ---- a call on the live part
+
+module _ (l : Live) (s : Stores) (e : Event) (a b : Bool) (a-is : a ≡ soundLive l) (b-is : b ≡ soundStores s) where
+  left : (x y : Bool) → (x && y) ≡ true → x ≡ true
+  left true y h = refl
+  left false y h = h
+
+  pub live-sound : (a && b) ≡ true → soundLive l ≡ true
+  live-sound h = sym a-is ∙ left a b h
+
+  by-refusal : (k : ℕ) → refusal (record { live = l; stores = s }) e ≡ k → judgedBy k l e ≡ judged l s e
+  unfolding judged
+  by-refusal k h = rw h refl
+
+  of-sound : (a && b) ≡ true → refusal (record { live = l; stores = s }) e ≡ refusalLive l e
+  of-sound h = rw (← a-is, ← b-is, h) refl
+
+  module _ (fine : (a && b) ≡ true) (n : ℕ) (n-is : n ≡ refusalLive l e) where
+    pub accepted : n ≡ 0 → (after : Live) (touched : Bool) → after ≡ advanceLive e l → touched ≡ touches e l after
+        → _≡_ {A = Judged} (record { number = 0; live = after; touched = touched }) (judged l s e)
+    accepted z after touched is t = rw (t, is) (by-refusal 0 (of-sound fine ∙ sym n-is ∙ z))
+
+    pub refused : ¬ (n ≡ 0) → _≡_ {A = Judged} (record { number = n; live = l; touched = false }) (judged l s e)
+    refused z = go n (of-sound fine ∙ sym n-is) z
+      where
+        go : (k : ℕ) → refusal (record { live = l; stores = s }) e ≡ k → ¬ (k ≡ 0)
+            → _≡_ {A = Judged} (record { number = k; live = l; touched = false }) (judged l s e)
+        go zero h z = absurd (z refl)
+        go (suc k) h z = by-refusal (suc k) h
+
+  pub unsound : (a && b) ≡ false → _≡_ {A = Judged} (record { number = 5; live = l; touched = false }) (judged l s e)
+  unsound h = by-refusal 5 (rw (← a-is, ← b-is, h) refl)
+
+-- ---- the two parts together are the call
+
+stores-kept : (e : Event) (l : Live) (s : Stores) → touches e l (advanceLive e l) ≡ false → advanceStores e l (advanceLive e l) s ≡ s
+stores-kept (Measurement t r) l s h = unchanged (l .battery) t r (l .watch .protections) (advanceLive (Measurement t r) l .watch .protections) s h
+stores-kept (PowerOn t) l s h = absurd (true≢false h)
+stores-kept (PowerLoss t) l s h = absurd (true≢false h)
+stores-kept (ContactorCommand t c) l s h = refl
+stores-kept (StateRequest t q) l s h = refl
+stores-kept (BattleOverride t on) l s h = refl
+stores-kept (ClearLongTerm t) l s h = absurd (true≢false h)
+
+joined-is : (r : Record) (e : Event) → joined r e (judged (r .live) (r .stores) e) ≡ call r e
+unfolding judged
+joined-is r e = go (refusal r e)
+  where
+    whole : Stores → Outcome
+    whole s = record { number = 0; after = record { live = advanceLive e (r .live); stores = s } }
+
+    written : (b : Bool) → touches e (r .live) (advanceLive e (r .live)) ≡ b
+        → joined r e (judgedBy 0 (r .live) e) ≡ answer 0 (advance r e) r
+    written true h = rw h refl
+    written false h = rw h (ap (λ (s : Stores). whole s) (sym (stores-kept e (r .live) (r .stores) h)))
+
+    go : (n : ℕ) → joined r e (judgedBy n (r .live) e) ≡ answer n (advance r e) r
+    go zero = written (touches e (r .live) (advanceLive e (r .live))) refl
+    go (suc n) = refl
+
+module _ (r : Record) (e : Event) (j : Judged) (is : j ≡ judged (r .live) (r .stores) e) where
+  pub applied : joined r e j ≡ call r e
+  applied = ap (joined r e) is ∙ joined-is r e
+
+  pub touched : j .touched ≡ true → (w : Stores) → w ≡ advanceStores e (r .live) (j .live) (r .stores)
+      → _≡_ {A = Outcome} (record { number = j .number; after = record { live = j .live; stores = w } }) (call r e)
+  touched h w w-is = ap (λ (s : Stores). put s) (w-is ∙ sym by) ∙ applied
+    where
+      put : Stores → Outcome
+      put s = record { number = j .number; after = record { live = j .live; stores = s } }
+
+      by : cond (j .touched) (advanceStores e (r .live) (j .live) (r .stores)) (r .stores) ≡ advanceStores e (r .live) (j .live) (r .stores)
+      by = rw h refl
+
+  pub kept : j .touched ≡ false → _≡_ {A = Outcome} (record { number = j .number; after = record { live = j .live; stores = r .stores } }) (call r e)
+  kept h = ap (λ (s : Stores). put s) (sym by) ∙ applied
+    where
+      put : Stores → Outcome
+      put s = record { number = j .number; after = record { live = j .live; stores = s } }
+
+      by : cond (j .touched) (advanceStores e (r .live) (j .live) (r .stores)) (r .stores) ≡ r .stores
+      by = rw h refl

@@ -23,7 +23,7 @@ const MISSION_TIME: Milliseconds = Milliseconds(345_600_000);
 
 const COMMAND_CEILING: u32 = 4_294_967_295;
 
-pub fn time_of(e: Event) -> Milliseconds
+fn time_of(e: Event) -> Milliseconds
     ensures { λ r. ⌜ r ≡ timeOf e ⌝ }
 {
     match e {

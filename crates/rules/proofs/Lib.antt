@@ -9,3 +9,4 @@ pub mod Sessions
 pub mod Milder
 pub mod Bounds
 pub mod Examples
+pub mod ByteLaws

@@ -1,0 +1,61 @@
+//! A few random logs, and logs longer than the buffers.
+
+mod common;
+
+use common::both;
+use peer::wire::Log;
+use peer::{fast, generate, model};
+
+#[test]
+fn random_logs_agree() {
+    for seed in 0..60 {
+        both(&generate::log(seed, 120));
+    }
+}
+
+#[test]
+fn a_seed_makes_one_log() {
+    assert_eq!(generate::log(5, 50), generate::log(5, 50));
+    assert_ne!(generate::log(5, 50), generate::log(6, 50));
+}
+
+/// 20,001 lines: several times the output buffer.
+#[test]
+fn longer_than_the_buffers() {
+    let mut log = Log::new(3);
+    let mut expected = String::new();
+    for number in 1..=20_001 {
+        log.power_on(0);
+        let refusal = if number == 1 { 0 } else { 8 };
+        expected.push_str(&format!("{number} {refusal} 1 0 00 0 0\n"));
+    }
+    log.bytes.push(9);
+    expected.push_str("stop 2 100006\n");
+    assert_eq!(model::text(&log.bytes), expected);
+    for buffer in [33, 1_000, 65_536, 1_000_000] {
+        assert_eq!(fast::text(&log.bytes, buffer), expected);
+    }
+}
+
+/// A source that hands out one byte at a time.
+struct Drip<'a>(&'a [u8]);
+
+impl std::io::Read for Drip<'_> {
+    fn read(&mut self, buffer: &mut [u8]) -> std::io::Result<usize> {
+        let length = 1.min(self.0.len()).min(buffer.len());
+        let (now, later) = self.0.split_at(length);
+        buffer[..length].copy_from_slice(now);
+        self.0 = later;
+        Ok(length)
+    }
+}
+
+#[test]
+fn one_byte_at_a_time() {
+    for seed in 0..40 {
+        let log = generate::log(seed, 60);
+        let mut out = Vec::new();
+        fast::run(Drip(&log), &mut out, 33).expect("reading memory");
+        assert_eq!(String::from_utf8_lossy(&out), model::text(&log));
+    }
+}

@@ -1,0 +1,4 @@
+pub mod Listed
+pub mod First
+pub mod Second
+pub mod Third

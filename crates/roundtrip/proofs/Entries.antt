@@ -19,9 +19,9 @@ use Rattle.words.proofs.Ranges.{above}
 use Rattle.words.specs.Decoding.{numbersFrom}
 use Rattle.entries.proofs.read.read_entry.Reads as read-entry
 use Rattle.entries.proofs.write.write_entry.Reads as write-entry
-use Rattle.roundtrip.proofs.Chains.{Items, Reader, Writer, AllInRange, ReadsBack, ReadToEnd, Wrote, WrittenAgain, Whole, written-then-read, read-then-written, whole-log}
-use Rattle.roundtrip.proofs.Forms.{bytesOf}
+use Rattle.roundtrip.proofs.Chains.{written-then-read, read-then-written, whole-log}
 use Rattle.roundtrip.proofs.Inverse.{same-entry-read}
+use Rattle.roundtrip.specs.Chains.{Items, Reader, Writer, bytesOf, AllInRange, ReadsBack, ReadToEnd, Wrote, WrittenAgain, Whole}
 
 abbrev pub entries : Items
 entries = record { Item = Entry; forms = entryForms; kind = entryKind; values = entryValues }
@@ -79,9 +79,9 @@ module _ (κs : Lfts 1) where
 
   -- An entry that was read is in range, and where there is room it is written again as the very bytes that were read.
   pub entry-read-then-written : (log : RefT (List ℕ)) (at next : ℕ) (e : Entry) → reader .Allows log at (Found e next)
-      → WrittenAgain entries reader writer (log .now) at e next
+      → WrittenAgain entries writer (log .now) at e next
   entry-read-then-written log at next e read = read-then-written entries reader writer {log = log} read
 
   -- A log that reads to "end" is exactly the bytes of the entries that were read.
-  pub entry-log-whole : {log : RefT (List ℕ)} {es : List Entry} → ReadToEnd entries reader log 0 es → Whole entries reader writer (log .now) es
+  pub entry-log-whole : {log : RefT (List ℕ)} {es : List Entry} → ReadToEnd entries reader log 0 es → Whole entries writer (log .now) es
   entry-log-whole = whole-log entries reader writer

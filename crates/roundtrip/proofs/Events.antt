@@ -13,9 +13,9 @@ use Rattle.rules.specs.declared.answers.ReadEvent.the-variants.{Found, End}
 use Rattle.rules.specs.declared.calls.Event.{Event}
 use Rattle.events.proofs.read.read_event.Reads as read-event
 use Rattle.events.proofs.write.write_event.Reads as write-event
-use Rattle.roundtrip.proofs.Chains.{Items, Reader, Writer, AllInRange, ReadsBack, ReadToEnd, Wrote, WrittenAgain, Whole, written-then-read, read-then-written, whole-log}
-use Rattle.roundtrip.proofs.Forms.{bytesOf}
+use Rattle.roundtrip.proofs.Chains.{written-then-read, read-then-written, whole-log}
 use Rattle.roundtrip.proofs.Inverse.{same-event-read}
+use Rattle.roundtrip.specs.Chains.{Items, Reader, Writer, bytesOf, AllInRange, ReadsBack, ReadToEnd, Wrote, WrittenAgain, Whole}
 
 abbrev pub events : Items
 events = record { Item = Event; forms = eventForms; kind = eventKind; values = eventValues }
@@ -60,9 +60,9 @@ module _ (κs : Lfts 1) where
 
   -- An event that was read is in range, and where there is room it is written again as the very bytes that were read.
   pub event-read-then-written : (log : RefT (List ℕ)) (at next : ℕ) (e : Event) → reader .Allows log at (Found e next)
-      → WrittenAgain events reader writer (log .now) at e next
+      → WrittenAgain events writer (log .now) at e next
   event-read-then-written log at next e read = read-then-written events reader writer {log = log} read
 
   -- A log that reads to "end" is exactly the bytes of the events that were read.
-  pub event-log-whole : {log : RefT (List ℕ)} {es : List Event} → ReadToEnd events reader log 0 es → Whole events reader writer (log .now) es
+  pub event-log-whole : {log : RefT (List ℕ)} {es : List Event} → ReadToEnd events reader log 0 es → Whole events writer (log .now) es
   event-log-whole = whole-log events reader writer

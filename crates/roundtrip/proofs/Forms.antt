@@ -13,10 +13,7 @@ use Rattle.rules.specs.Bytes.{Field, Form, AreBytes, fieldsOf, bodySize, values
 use Rattle.rules.specs.Numbers.{found}
 use Rattle.roundtrip.proofs.Digits.{take-bytes, drop-bytes}
 use Rattle.roundtrip.proofs.Fields.{fields-size, fields-read, fields-range, fields-written}
-
--- "one byte of kind, then a body"
-abbrev pub bytesOf : List Form → ℕ → List ℤ → List ℕ
-bytesOf forms kind values = kind ∷ fieldsBytes (fieldsOf forms kind) values
+use Rattle.roundtrip.specs.Chains.{bytesOf}
 
 module _ (forms : List Form) (log : List ℕ) (at : ℕ) where
   -- written, then read

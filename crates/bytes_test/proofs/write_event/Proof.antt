@@ -1,0 +1,32 @@
+use mathlib.Core.Path.{sym}
+use native.Mathlib.Omega.{arith}
+use lib.ListN.{replicate}
+use lib.Seq.{length-take-le}
+use borrow.Author.Needs.{needs}
+use Rattle.bytes_test.proofs.write_event.Statement.{statement}
+use Rattle.bytes_test.proofs.write_event.Tie as tie
+
+array-borrow-prefix-buffer : tie.Need-array-borrow-prefix-buffer
+array-borrow-prefix-buffer c = search needs
+
+slice-aggregate-event-into : tie.Need-slice-aggregate-event-into
+slice-aggregate-event-into c = sym (length-take-le (c .before .before .args .room) (replicate 64 238) (omega arith))
+
+event-into-requires : tie.Need-event-into-requires
+event-into-requires c κs = search needs
+
+returns : tie.Need-returns
+returns c = search needs
+
+returns-2 : tie.Need-returns-2
+returns-2 c = search needs
+
+pub write-event-spec : {M : Type 1} → statement M
+write-event-spec =
+    tie.close
+    (tie.spec
+    array-borrow-prefix-buffer
+    slice-aggregate-event-into
+    event-into-requires
+    returns
+    returns-2)

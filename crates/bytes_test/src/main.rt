@@ -2,6 +2,7 @@
 // A case on standard input is four bytes (which, position, room, length) and then `length` bytes: which is 0 for the event reader, 1 for
 // the entry reader, each followed by a writer into a buffer of `room` bytes if something was found; 2 and 3 write a trip and a release
 // whose protection number is the first of the bytes.
+ghost use mathlib.Core.Path.{_≡_};
 use rules::answers::ReadEntry;
 use rules::answers::ReadEvent;
 use rules::answers::Written;
@@ -12,7 +13,9 @@ use rules::reading::Reading;
 use rules::stores::Entry;
 use rules::units::Milliseconds;
 
-fn wide(x: u8) -> usize {
+fn wide(x: u8) -> usize
+    ensures { λ r. ⌜ r ≡ x ⌝ }
+{
     x as usize
 }
 

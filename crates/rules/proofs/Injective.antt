@@ -27,7 +27,7 @@ use Rattle.rules.specs.declared.answers.ReadEntry.the-variants.{Found as
 use Rattle.rules.specs.declared.answers.Written.{Written}
 use Rattle.rules.specs.declared.answers.Written.the-variants.{Bytes, Refused}
 use Rattle.rules.specs.Quantities.{mV, mA, ms, dC}
-use Rattle.rules.specs.Numbers.{stateNumber, requestNumber, commandNumber, overrideNumber, testNumber, contactorNumber, eventKind, eventValues, entryKind, entryValues, ReadAnswer, found, end, ReadAnswer.refused, answerOfReadEvent, answerOfReadEntry, WriteAnswer, bytes, answerOfWrite}
+use Rattle.rules.specs.Numbers.{stateNumber, requestNumber, commandNumber, overrideNumber, testNumber, contactorNumber, eventKind, eventValues, entryKind, entryValues, requestOf, commandOf, overrideOf, signed, unsigned, eventOf, ReadAnswer, found, end, ReadAnswer.refused, answerOfReadEvent, answerOfReadEntry, WriteAnswer, bytes, answerOfWrite}
 use Rattle.rules.specs.Numbers.{WriteAnswer.refused as notWritten}
 
 -- a map that can be undone takes no two for one
@@ -48,10 +48,6 @@ state-of Maintenance = refl
 pub state-injective : (a b : State) → stateNumber a ≡ stateNumber b → a ≡ b
 state-injective = injective stateNumber stateOf state-of
 
--- no request has number 0
-abbrev requestOf : ℕ → Request
-requestOf n = getD (ToDormant ∷ ToDormant ∷ ToOperational ∷ ToMaintenance ∷ []) n ToDormant
-
 request-of : (q : Request) → requestOf (requestNumber q) ≡ q
 request-of ToDormant = refl
 request-of ToOperational = refl
@@ -60,9 +56,6 @@ request-of ToMaintenance = refl
 pub request-injective : (a b : Request) → requestNumber a ≡ requestNumber b → a ≡ b
 request-injective = injective requestNumber requestOf request-of
 
-abbrev commandOf : ℕ → Command
-commandOf n = getD (Automated ∷ Open ∷ ForceClosed ∷ []) n Automated
-
 command-of : (c : Command) → commandOf (commandNumber c) ≡ c
 command-of Automated = refl
 command-of Open = refl
@@ -70,9 +63,6 @@ command-of ForceClosed = refl
 
 pub command-injective : (a b : Command) → commandNumber a ≡ commandNumber b → a ≡ b
 command-injective = injective commandNumber commandOf command-of
-
-abbrev overrideOf : ℕ → Bool
-overrideOf n = getD (false ∷ true ∷ []) n false
 
 override-of : (on : Bool) → overrideOf (overrideNumber on) ≡ on
 override-of false = refl
@@ -104,46 +94,7 @@ contactor-injective = injective contactorNumber contactorOf contactor-of
 
 -- ---- events and entries: from the kind and the values
 
--- value k, and that of an unsigned field
-abbrev signed : List ℤ → ℕ → ℤ
-signed values k = getD values k (pos 0)
-
-abbrev unsigned : List ℤ → ℕ → ℕ
-unsigned values k = natAbs (signed values k)
-
-abbrev readingOf : List ℤ → Reading
-readingOf values = record {
-  cell0 = mV (unsigned values 1);
-  cell1 = mV (unsigned values 2);
-  cell2 = mV (unsigned values 3);
-  cell3 = mV (unsigned values 4);
-  cell4 = mV (unsigned values 5);
-  cell5 = mV (unsigned values 6);
-  cell6 = mV (unsigned values 7);
-  cell7 = mV (unsigned values 8);
-  current = mA (signed values 9);
-  temperature0 = dC (signed values 10);
-  temperature1 = dC (signed values 11);
-  temperature2 = dC (signed values 12);
-  temperature3 = dC (signed values 13);
-}
-
--- kinds begin at 1
-abbrev eventOf : ℕ → List ℤ → Event
-eventOf kind values =
-    let t = ms (unsigned values 0) in
-    let which = unsigned values 1 in
-    getD
-    (Measurement t (readingOf values)
-    ∷ PowerOn t
-    ∷ PowerLoss t
-    ∷ ContactorCommand t (commandOf which)
-    ∷ StateRequest t (requestOf which)
-    ∷ BattleOverride t (overrideOf which)
-    ∷ ClearLongTerm t
-    ∷ []) (kind - 0x01) (PowerOn t)
-
-event-of : (e : Event) → eventOf (eventKind e) (eventValues e) ≡ e
+pub event-of : (e : Event) → eventOf (eventKind e) (eventValues e) ≡ e
 event-of (Measurement t r) = refl
 event-of (PowerOn t) = refl
 event-of (PowerLoss t) = refl

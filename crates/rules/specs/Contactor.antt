@@ -1,13 +1,15 @@
 -- Document 01, "The contactor", on the ledger of a run's type and list.
-use Prim.Native.Nat.{ℕ, _<_}
+use Prim.Native.Nat.{ℕ, zero, suc, _<_}
 use mathlib.Core.Path.{_≡_}
-use mathlib.Core.Bool.{true}
+use mathlib.Core.Bool.{Bool, true, false, not, _&&_, _||_}
 use mathlib.Core.Logic.{_⊎_, _≢_}
-use lib.Dec.{T}
-use Rattle.rules.specs.declared.states.State.the-variants.{Operational, Maintenance}
-use Rattle.rules.specs.declared.calls.Command.the-variants.{Automated, ForceClosed}
+use lib.Dec.{T, eqb}
+use Rattle.rules.specs.declared.states.State.{State}
+use Rattle.rules.specs.declared.states.State.the-variants.{Unpowered, Dormant, Operational, Maintenance}
+use Rattle.rules.specs.declared.calls.Command.{Command}
+use Rattle.rules.specs.declared.calls.Command.the-variants.{Automated, Open, ForceClosed}
 use Rattle.rules.specs.Protections.{protection}
-use Rattle.rules.specs.Ledger.{Ledger, testOf, TrippedOn}
+use Rattle.rules.specs.Ledger.{Ledger, testOf, TrippedOn, isTrippedOn}
 
 -- "the state is Operational with command Automated, or Maintenance with command Force closed"
 abbrev pub StateAndCommand : Ledger → Type 0
@@ -36,6 +38,31 @@ SomeTripped battery l = (number : ℕ) × (number < 8) × TrippedOn battery l nu
 pub record Closed (battery : ℕ) (l : Ledger) : Type 0 where
   pub permits : PermitsClosing l
   pub protections : (AllLiftable battery l × InForce l) ⊎ NoneTripped battery l
+
+-- ---- the same as a test that computes, for the program's text; proofs/Closing has that the two agree
+
+abbrev pub stateAndCommand : State → Command → Bool
+stateAndCommand Unpowered c = false
+stateAndCommand Dormant c = false
+stateAndCommand Operational Automated = true
+stateAndCommand Operational Open = false
+stateAndCommand Operational ForceClosed = false
+stateAndCommand Maintenance Automated = false
+stateAndCommand Maintenance Open = false
+stateAndCommand Maintenance ForceClosed = true
+
+-- whether a test holds of each protection below n
+abbrev pub eachBelow : (ℕ → Bool) → ℕ → Bool
+eachBelow test zero = true
+eachBelow test (suc number) = eachBelow test number && test number
+
+unfoldable pub isClosed : ℕ → Ledger → Bool
+isClosed battery l =
+    (eqb (testOf (l .measured)) 1 && stateAndCommand (l .state) (l .command))
+    && ((eachBelow (λ number. not (isTrippedOn battery l number) || protection battery number .liftable) 8 && l .override)
+    || eachBelow (λ number. not (isTrippedOn battery l number)) 8)
+
+-- ---- two runs
 
 -- 00-mission.md, demand 3: "override is in force in just one run, state, command and test permit closing, and one or more protections
 -- are tripped, all of them liftable"; the parts that the runs share are said of the first

@@ -13,7 +13,7 @@ use Rattle.rules.specs.Quantities.{ms}
 use Rattle.rules.specs.States.{requested, isChange, entersDormant}
 use Rattle.rules.specs.Refusals.{refusal}
 use Rattle.rules.specs.Test.{plausible, failedMask, failedCount}
-use Rattle.rules.specs.Protections.{protection}
+use Rattle.rules.specs.Protections.{protection, maskBelow}
 use Rattle.rules.specs.Trips.{Measured, Tripped, isTripped}
 
 -- document 01, "ledger": "It holds state, command, override, last time, command count and the session's measurements", the newest
@@ -140,3 +140,6 @@ TrippedOn battery l number = Tripped (protection battery number) (l .measured)
 
 abbrev pub isTrippedOn : ℕ → Ledger → ℕ → Bool
 isTrippedOn battery l number = isTripped (protection battery number) (l .measured)
+
+abbrev pub trippedMaskOn : ℕ → Ledger → ℕ
+trippedMaskOn battery l = maskBelow (isTrippedOn battery l) 8

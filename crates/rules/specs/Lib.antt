@@ -14,5 +14,6 @@ pub mod Alike
 pub mod Shown
 pub mod Soundness
 pub mod Bytes
+pub mod Text
 pub mod Claims
 pub mod Examples

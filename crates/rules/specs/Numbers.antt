@@ -1,9 +1,10 @@
 -- The paper's number and values for every case of every enum that is an answer or is printed. Contracts and claims are stated through
 -- these; proofs/Injective has that none of them takes two cases for one.
-use Prim.Native.Nat.{ℕ}
+use Prim.Native.Nat.{ℕ, _-_}
 use mathlib.Core.Bool.{Bool, true, false}
 use mathlib.Core.List.{List, [], _∷_}
-use lib.IntN.{ℤ, pos}
+use lib.IntN.{ℤ, pos, natAbs}
+use lib.ListN.{getD}
 use Rattle.rules.specs.declared.reading.Reading.{Reading}
 use Rattle.rules.specs.declared.states.State.{State}
 use Rattle.rules.specs.declared.states.State.the-variants.{Unpowered, Dormant, Operational, Maintenance}
@@ -25,6 +26,7 @@ use Rattle.rules.specs.declared.answers.ReadEntry.{ReadEntry}
 use Rattle.rules.specs.declared.answers.ReadEntry.the-variants.{Found as FoundEntry, End as NoEntry, Refused as RefusedEntry}
 use Rattle.rules.specs.declared.answers.Written.{Written}
 use Rattle.rules.specs.declared.answers.Written.the-variants.{Bytes, Refused}
+use Rattle.rules.specs.Quantities.{mV, mA, ms, dC}
 
 -- ---- states and settings
 
@@ -110,6 +112,57 @@ entryKind (Release t p) = 0x22
 abbrev pub entryValues : Entry → List ℤ
 entryValues (Trip t p v) = pos (t .0) ∷ pos p ∷ v ∷ []
 entryValues (Release t p) = pos (t .0) ∷ pos p ∷ []
+
+-- ---- the event of a kind and its values, as far as there is one: from a reader's answer back to what was read
+
+-- no request has number 0
+abbrev pub requestOf : ℕ → Request
+requestOf n = getD (ToDormant ∷ ToDormant ∷ ToOperational ∷ ToMaintenance ∷ []) n ToDormant
+
+abbrev pub commandOf : ℕ → Command
+commandOf n = getD (Automated ∷ Open ∷ ForceClosed ∷ []) n Automated
+
+abbrev pub overrideOf : ℕ → Bool
+overrideOf n = getD (false ∷ true ∷ []) n false
+
+-- value k, and that of an unsigned field
+abbrev pub signed : List ℤ → ℕ → ℤ
+signed values k = getD values k (pos 0)
+
+abbrev pub unsigned : List ℤ → ℕ → ℕ
+unsigned values k = natAbs (signed values k)
+
+abbrev pub readingOf : List ℤ → Reading
+readingOf values = record {
+  cell0 = mV (unsigned values 1);
+  cell1 = mV (unsigned values 2);
+  cell2 = mV (unsigned values 3);
+  cell3 = mV (unsigned values 4);
+  cell4 = mV (unsigned values 5);
+  cell5 = mV (unsigned values 6);
+  cell6 = mV (unsigned values 7);
+  cell7 = mV (unsigned values 8);
+  current = mA (signed values 9);
+  temperature0 = dC (signed values 10);
+  temperature1 = dC (signed values 11);
+  temperature2 = dC (signed values 12);
+  temperature3 = dC (signed values 13);
+}
+
+-- kinds begin at 1
+abbrev pub eventOf : ℕ → List ℤ → Event
+eventOf kind values =
+    let t = ms (unsigned values 0) in
+    let which = unsigned values 1 in
+    getD
+    (Measurement t (readingOf values)
+    ∷ PowerOn t
+    ∷ PowerLoss t
+    ∷ ContactorCommand t (commandOf which)
+    ∷ StateRequest t (requestOf which)
+    ∷ BattleOverride t (overrideOf which)
+    ∷ ClearLongTerm t
+    ∷ []) (kind - 0x01) (PowerOn t)
 
 -- ---- what functions answer
 

@@ -1,5 +1,5 @@
 -- Document 01, "Protections": the table, a row for each, and the permitted charge current L.
-use Prim.Native.Nat.{ℕ, _+_, _-_, _*_, _/_}
+use Prim.Native.Nat.{ℕ, zero, suc, _+_, _-_, _*_, _/_, _^_}
 use mathlib.Core.Bool.{Bool, true, false, cond, _&&_}
 use mathlib.Core.List.{List, [], _∷_}
 use lib.Dec.{ltb}
@@ -173,3 +173,8 @@ table battery =
 -- the row of a number; there is none from 8 on, and row 0 answers
 unfoldable pub protection : ℕ → ℕ → Protection
 protection battery number = getD (table battery) number overvoltage
+
+-- "as a mask with bit = number": of the protections below n, those that a test picks
+abbrev pub maskBelow : (ℕ → Bool) → ℕ → ℕ
+maskBelow test zero = 0
+maskBelow test (suc number) = maskBelow test number + cond (test number) (2 ^ number) 0

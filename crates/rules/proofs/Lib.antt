@@ -9,4 +9,7 @@ pub mod Sessions
 pub mod Milder
 pub mod Bounds
 pub mod Examples
+pub mod Closing
+pub mod Decimals
 pub mod ByteLaws
+pub mod Parts

@@ -78,10 +78,10 @@ module _ (battery : ℕ) (type : T (isType battery)) (calls : List Event) where
 
 -- ---- the fresh record of a type number
 
-abbrev known : ℕ → Bool
+abbrev pub known : ℕ → Bool
 known battery = leb 1 battery && leb battery 3
 
-same-known : (battery : ℕ) → known battery ≡ isType battery
+pub same-known : (battery : ℕ) → known battery ≡ isType battery
 same-known battery = same-test (known battery) (isType battery) (and-iff (leb 1 battery) (leb battery 3)) (swap (type-is battery))
   where
     swap : {A B : Type 0} → A ↔ B → B ↔ A

@@ -12,3 +12,4 @@ pub mod Runs
 pub mod Closing
 pub mod Overrides
 pub mod Claims
+pub mod Printing

@@ -6,3 +6,4 @@ pub mod Push
 pub mod Charge
 pub mod Close
 pub mod Call
+pub mod Print

@@ -1,0 +1,107 @@
+-- A run of the step prints the text that the rules give. Assumes nothing.
+use mathlib.Core.Path.{_≡_, refl, sym, ap, ap₂, _∙_}
+use mathlib.Core.Logic.{_↔_}
+use mathlib.Core.Bool.{Bool, true, false, cond}
+use mathlib.Core.List.{List, [], _∷_, _++_}
+use Prim.Native.Nat.{ℕ, zero, suc, _+_, _<_}
+use native.Mathlib.Omega.{arith}
+use lib.Dec.{T}
+use lib.ListN.{length, length-append}
+use Rattle.rules.specs.declared.states.Contactor.{Contactor}
+use Rattle.rules.specs.declared.states.Contactor.the-variants.{Open, Closed as IsClosed}
+use Rattle.rules.specs.declared.calls.Event.{Event}
+use Rattle.rules.specs.declared.battery.Record.{Record}
+use Rattle.rules.specs.Quantities.{isType}
+use Rattle.rules.specs.Numbers.{stateNumber, overrideNumber, contactorNumber}
+use Rattle.rules.specs.Protections.{maskBelow}
+use Rattle.rules.specs.Ledger.{Ledger, Accepted, atFirst, enter, refused, accepted, acceptedFrom, ifAccepted, entered, testOf, isTrippedOn, trippedMaskOn}
+use Rattle.rules.specs.Stores.{longTerm}
+use Rattle.rules.specs.Accounts.{charged, discharged}
+use Rattle.rules.specs.Contactor.{isClosed}
+use Rattle.rules.specs.Shown.{firstPlaces, longEntries}
+use Rattle.rules.specs.Text.{eventLine, endLine, stopLine, Ending, atEnd, stopped, readLog, callLine, callLines, lastLine, logText, text}
+use Rattle.rules.proofs.Closing.{is-closed}
+use Rattle.step.specs.Fresh.{freshRecord, fresh}
+use Rattle.step.specs.Close.{contactor}
+use Rattle.step.specs.Call.{call, run}
+use Rattle.step.specs.Print.{trippedOf, liveLine, printed, endOf, lastOf, printedLog, printedInput}
+use Rattle.step.proofs.Shows.{Shows, shows-fresh}
+use Rattle.step.proofs.Closing.{closed-is}
+use Rattle.step.proofs.Runs.{shows-call, shows-run, number-is, battery-run}
+use Rattle.step.proofs.Claims.{same-known}
+use Rattle.step.proofs.Bools.{is-true}
+
+-- ---- one line
+
+contactor-digit : (c : Contactor) (b : Bool) {X : Type 0} → (contactorNumber c ≡ 1) ↔ X → T b ↔ X → contactorNumber c ≡ cond b 1 0
+contactor-digit Open true x y = absurd (let e : _≡_ {A = ℕ} 0 1 = x .1 (y .0 tt) in omega (arith, e))
+contactor-digit Open false x y = refl
+contactor-digit IsClosed true x y = refl
+contactor-digit IsClosed false x y = absurd (y .1 (x .0 refl))
+
+mask-same : (n : ℕ) (f g : ℕ → Bool) → ((k : ℕ) → k < n → f k ≡ g k) → maskBelow f n ≡ maskBelow g n
+mask-same zero f g h = refl
+mask-same (suc n) f g h = rw (mask-same n f g (λ k below. h k (omega (arith, below))), h n (omega arith)) refl
+
+-- what the rules print of a ledger
+abbrev ledgerLine : ℕ → ℕ → ℕ → Ledger → List ℕ
+ledgerLine battery number refusal l =
+    eventLine number refusal (stateNumber (l .state)) (cond (isClosed battery l) 1 0) (trippedMaskOn battery l) (overrideNumber (l .override)) (testOf (l .measured))
+
+module _ (r : Record) (l : Ledger) (past : List Accepted) (k : Shows r l past) where
+  tripped-same : trippedOf (r .live) ≡ trippedMaskOn (r .live .battery) l
+  tripped-same = mask-same 8 _ (isTrippedOn (r .live .battery) l) (λ number h. k .watch .protections number h .tripped)
+
+  closed-same : contactorNumber (contactor r) ≡ cond (isClosed (r .live .battery) l) 1 0
+  closed-same = contactor-digit (contactor r) (isClosed (r .live .battery) l) (closed-is r l past k) (is-closed (r .live .battery) l)
+
+  -- the line of a record that shows a ledger
+  pub line-shown : (number refusal : ℕ) → liveLine number refusal (r .live) ≡ ledgerLine (r .live .battery) number refusal l
+  unfolding liveLine
+  line-shown number refusal =
+      rw (closed-same, tripped-same, k .control .state, k .control .override, k .watch .test) refl
+
+  pub end-shown : endOf r ≡ endLine (charged past) (discharged past) (length (longTerm (r .live .battery) past))
+  unfolding longEntries
+  end-shown = rw (k .tally .charged, k .tally .discharged, sym (k .stores .long), places (r .stores .faults .count) _) refl
+    where
+      places : {A : Type 0} (n : ℕ) (place : ℕ → A) → length (firstPlaces n place) ≡ n
+      places zero place = refl
+      places (suc n) place = let e = length-append (firstPlaces n place) (place n ∷ []) in omega (arith, e, places n place)
+
+-- ---- the lines of a list of calls, and the last line
+
+pub call-line-shown : (r : Record) (l : Ledger) (past : List Accepted) → Shows r l past → (number : ℕ) (e : Event)
+    → liveLine number (call r e .number) (call r e .after .live) ≡ callLine (r .live .battery) number l e
+call-line-shown r l past k number e =
+    line-shown (call r e .after) (enter l e) _ (shows-call r l past k e) number (call r e .number)
+    ∙ ap₂ (λ (b n : ℕ). ledgerLine b number n (enter l e)) (battery-run r (e ∷ [])) (number-is r l past k e)
+
+pub lines-shown : (battery : ℕ) (r : Record) (l : Ledger) (past : List Accepted) → Shows r l past → r .live .battery ≡ battery → (number : ℕ) (es : List Event)
+    → printed number r es ≡ callLines battery number l es
+lines-shown battery r l past k same number [] = refl
+lines-shown battery r l past k same number (e ∷ es) =
+    ap₂ _++_
+    (call-line-shown r l past k number e ∙ ap (λ (b : ℕ). callLine b number l e) same)
+    (lines-shown battery (call r e .after) (enter l e) _ (shows-call r l past k e) (battery-run r (e ∷ []) ∙ same) (number + 1) es)
+
+last-shown : (battery : ℕ) → T (isType battery) → (calls : List Event) (ending : Ending)
+    → lastOf (run (freshRecord battery) calls) ending ≡ lastLine battery calls ending
+last-shown battery type calls atEnd =
+    end-shown (run (freshRecord battery) calls) _ (accepted calls) (shows-run (freshRecord battery) atFirst [] calls (shows-fresh battery type))
+    ∙ ap (λ (b : ℕ). endLine (charged (accepted calls)) (discharged (accepted calls)) (length (longTerm b (accepted calls)))) (battery-run (freshRecord battery) calls)
+last-shown battery type calls (stopped number position) = refl
+
+-- ---- a whole input
+
+pub prints : (input : List ℕ) → printedInput input ≡ text input
+prints [] = refl
+prints (battery ∷ log) = go (isType battery) refl
+  where
+    go : (b : Bool) → isType battery ≡ b → printedInput (battery ∷ log) ≡ cond b (logText battery (readLog log)) (stopLine 1 0)
+    go true e =
+        let type = is-true (isType battery) .1 e in
+        rw (same-known battery, e)
+        (ap₂ _++_ (lines-shown battery (freshRecord battery) atFirst [] (shows-fresh battery type) refl 1 (readLog log .calls))
+        (last-shown battery type (readLog log .calls) (readLog log .ending)))
+    go false e = rw (same-known battery, e) refl

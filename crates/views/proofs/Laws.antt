@@ -1,0 +1,58 @@
+-- What is shown of a live part and of a store is what the whole record shows. Assumes nothing.
+use Prim.Native.Nat.{ℕ, zero, suc, _+_}
+use mathlib.Core.Bool.{Bool, true, false, cond}
+use mathlib.Core.List.{List, [], _∷_}
+use mathlib.Core.Path.{_≡_, refl, sym, ap, _∙_}
+use native.Mathlib.Nat.{zero-add}
+use native.Mathlib.Numerals.{add-one}
+use lib.ListN.{length, length-append}
+use Rattle.rules.specs.declared.battery.Live.{Live}
+use Rattle.rules.specs.declared.battery.Record.{Record}
+use Rattle.rules.specs.declared.stores.LongTerm.{LongTerm}
+use Rattle.rules.specs.declared.stores.ShortTerm.{ShortTerm}
+use Rattle.rules.specs.Numbers.{contactorNumber}
+use Rattle.rules.specs.Shown.{firstPlaces, longEntry, longEntries, shortEntry, shortEntries, trippedMask}
+use Rattle.step.specs.Close.{closes, contactor}
+use Rattle.step.specs.Sound.{at}
+use Rattle.views.specs.Views.{contactorOf, trippedOf}
+
+pub contactor-is : (r : Record) → contactorOf (r .live) ≡ contactor r
+contactor-is r = refl
+
+pub tripped-is : (r : Record) → trippedOf (r .live) ≡ trippedMask r
+unfolding trippedOf
+tripped-is r = refl
+
+-- as many as are counted
+pub places : {A : Type 0} (n : ℕ) (place : ℕ → A) → length (firstPlaces n place) ≡ n
+places zero place = refl
+places (suc n) place = length-append (firstPlaces n place) (place n ∷ []) ∙ (ap (λ (k : ℕ). k + 1) (places n place) ∙ add-one n)
+
+pub long-length : (s : LongTerm) → s .count ≡ length (longEntries s)
+unfolding longEntries
+long-length s = sym (places (s .count) (longEntry s))
+
+pub short-length : (s : ShortTerm) → s .count ≡ length (shortEntries s)
+unfolding shortEntries
+short-length s = sym (places (s .count) (shortEntry s))
+
+pub closed-is-1 : (l : Live) (b : Bool) → b ≡ closes l → b ≡ true → 1 ≡ contactorNumber (contactorOf l)
+closed-is-1 l b e h = rw (← e, h) refl
+
+pub open-is-0 : (l : Live) (b : Bool) → b ≡ closes l → b ≡ false → 0 ≡ contactorNumber (contactorOf l)
+open-is-0 l b e h = rw (← e, h) refl
+
+-- the sum of eight bits, by what each is
+pub mask-is : (l : Live) (a b c d e f g h : ℕ)
+    → a ≡ cond (at (l .watch .protections) 0 .tripped) 1 0
+    → b ≡ cond (at (l .watch .protections) 1 .tripped) 2 0
+    → c ≡ cond (at (l .watch .protections) 2 .tripped) 4 0
+    → d ≡ cond (at (l .watch .protections) 3 .tripped) 8 0
+    → e ≡ cond (at (l .watch .protections) 4 .tripped) 16 0
+    → f ≡ cond (at (l .watch .protections) 5 .tripped) 32 0
+    → g ≡ cond (at (l .watch .protections) 6 .tripped) 64 0
+    → h ≡ cond (at (l .watch .protections) 7 .tripped) 128 0
+    → a + b + c + d + e + f + g + h ≡ trippedOf l
+unfolding trippedOf
+mask-is l a b c d e f g h is0 is1 is2 is3 is4 is5 is6 is7 =
+    rw (is0, is1, is2, is3, is4, is5, is6, is7, zero-add (cond (at (l .watch .protections) 0 .tripped) 1 0)) refl

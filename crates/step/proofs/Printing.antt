@@ -43,6 +43,11 @@ mask-same : (n : ℕ) (f g : ℕ → Bool) → ((k : ℕ) → k < n → f k ≡ 
 mask-same zero f g h = refl
 mask-same (suc n) f g h = rw (mask-same n f g (λ k below. h k (omega (arith, below))), h n (omega arith)) refl
 
+-- as many places as are counted
+pub places : {A : Type 0} (n : ℕ) (place : ℕ → A) → length (firstPlaces n place) ≡ n
+places zero place = refl
+places (suc n) place = omega (arith, length-append (firstPlaces n place) (place n ∷ []), places n place)
+
 -- what the rules print of a ledger
 abbrev ledgerLine : ℕ → ℕ → ℕ → Ledger → List ℕ
 ledgerLine battery number refusal l =
@@ -50,6 +55,7 @@ ledgerLine battery number refusal l =
 
 module _ (r : Record) (l : Ledger) (past : List Accepted) (k : Shows r l past) where
   tripped-same : trippedOf (r .live) ≡ trippedMaskOn (r .live .battery) l
+  unfolding trippedOf
   tripped-same = mask-same 8 _ (isTrippedOn (r .live .battery) l) (λ number h. k .watch .protections number h .tripped)
 
   closed-same : contactorNumber (contactor r) ≡ cond (isClosed (r .live .battery) l) 1 0
@@ -64,10 +70,6 @@ module _ (r : Record) (l : Ledger) (past : List Accepted) (k : Shows r l past) w
   pub end-shown : endOf r ≡ endLine (charged past) (discharged past) (length (longTerm (r .live .battery) past))
   unfolding longEntries
   end-shown = rw (k .tally .charged, k .tally .discharged, sym (k .stores .long), places (r .stores .faults .count) _) refl
-    where
-      places : {A : Type 0} (n : ℕ) (place : ℕ → A) → length (firstPlaces n place) ≡ n
-      places zero place = refl
-      places (suc n) place = let e = length-append (firstPlaces n place) (place n ∷ []) in omega (arith, e, places n place)
 
 -- ---- the lines of a list of calls, and the last line
 

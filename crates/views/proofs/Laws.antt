@@ -14,7 +14,8 @@ use Rattle.rules.specs.Numbers.{contactorNumber}
 use Rattle.rules.specs.Shown.{firstPlaces, longEntry, longEntries, shortEntry, shortEntries, trippedMask}
 use Rattle.step.specs.Close.{closes, contactor}
 use Rattle.step.specs.Sound.{at}
-use Rattle.views.specs.Views.{contactorOf, trippedOf}
+use Rattle.step.specs.Print.{contactorOf, trippedOf}
+use Rattle.step.proofs.Printing.{places}
 
 pub contactor-is : (r : Record) → contactorOf (r .live) ≡ contactor r
 contactor-is r = refl
@@ -22,11 +23,6 @@ contactor-is r = refl
 pub tripped-is : (r : Record) → trippedOf (r .live) ≡ trippedMask r
 unfolding trippedOf
 tripped-is r = refl
-
--- as many as are counted
-pub places : {A : Type 0} (n : ℕ) (place : ℕ → A) → length (firstPlaces n place) ≡ n
-places zero place = refl
-places (suc n) place = length-append (firstPlaces n place) (place n ∷ []) ∙ (ap (λ (k : ℕ). k + 1) (places n place) ∙ add-one n)
 
 pub long-length : (s : LongTerm) → s .count ≡ length (longEntries s)
 unfolding longEntries

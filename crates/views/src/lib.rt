@@ -6,7 +6,7 @@ ghost use Prim.Native.Nat.{_≤_};
 ghost use lib.ListN.{length};
 ghost use Rattle.rules.specs.Numbers.{stateNumber, commandNumber, overrideNumber, testNumber, contactorNumber};
 ghost use Rattle.rules.specs.Shown.{longEntries, shortEntries};
-ghost use Rattle.views.specs.Views.{contactorOf, trippedOf};
+ghost use Rattle.step.specs.Print.{contactorOf, trippedOf};
 use rules::battery::Live;
 use rules::calls::Command;
 use rules::states::State;

@@ -1,0 +1,6 @@
+pub mod Spelling
+pub mod Putting
+pub mod Answers
+pub mod Lining
+pub mod Going
+pub mod LastLine

@@ -1,0 +1,22 @@
+use mathlib.Core.Path.{sym}
+use Rattle.report.proofs.Spelling.{digit-small, digit-large}
+use borrow.Author.Needs.{needs}
+use Rattle.report.proofs.digits.hex_digit.Statement.{statement}
+use Rattle.report.proofs.digits.hex_digit.Tie as tie
+use Rattle.report.proofs.digits.hex_digit.Reads as reads
+use Rattle.report.proofs.digits.hex_digit.Lts as lts
+
+add-result : tie.Need-add-result
+add-result c = search needs
+
+add-result-2 : tie.Need-add-result-2
+add-result-2 c = search needs
+
+returns : tie.Need-returns
+returns c = sym (digit-small (c .before .args .d) (search needs))
+
+returns-2 : tie.Need-returns-2
+returns-2 c = sym (digit-large (c .before .args .d) (search needs))
+
+pub hex-digit-spec : {M : Type 1} → statement M
+hex-digit-spec = tie.close (tie.spec add-result add-result-2 returns returns-2)

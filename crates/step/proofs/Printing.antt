@@ -6,7 +6,7 @@ use mathlib.Core.List.{List, [], _∷_, _++_}
 use Prim.Native.Nat.{ℕ, zero, suc, _+_, _<_}
 use native.Mathlib.Omega.{arith}
 use lib.Dec.{T}
-use lib.ListN.{length, length-append}
+use lib.ListN.{length}
 use Rattle.rules.specs.declared.states.Contactor.{Contactor}
 use Rattle.rules.specs.declared.states.Contactor.the-variants.{Open, Closed as IsClosed}
 use Rattle.rules.specs.declared.calls.Event.{Event}
@@ -18,13 +18,14 @@ use Rattle.rules.specs.Ledger.{Ledger, Accepted, atFirst, enter, refused, accep
 use Rattle.rules.specs.Stores.{longTerm}
 use Rattle.rules.specs.Accounts.{charged, discharged}
 use Rattle.rules.specs.Contactor.{isClosed}
-use Rattle.rules.specs.Shown.{firstPlaces, longEntries}
+use Rattle.rules.specs.Shown.{longEntry, longEntries}
 use Rattle.rules.specs.Text.{eventLine, endLine, stopLine, Ending, atEnd, stopped, readLog, callLine, callLines, lastLine, logText, text}
 use Rattle.rules.proofs.Closing.{is-closed}
 use Rattle.step.specs.Fresh.{freshRecord, fresh}
 use Rattle.step.specs.Close.{contactor}
 use Rattle.step.specs.Call.{call, run}
 use Rattle.step.specs.Print.{trippedOf, liveLine, printed, endOf, lastOf, printedLog, printedInput}
+use Rattle.step.proofs.Lists.{length-first}
 use Rattle.step.proofs.Shows.{Shows, shows-fresh}
 use Rattle.step.proofs.Closing.{closed-is}
 use Rattle.step.proofs.Runs.{shows-call, shows-run, number-is, battery-run}
@@ -42,11 +43,6 @@ contactor-digit IsClosed false x y = absurd (y .1 (x .0 refl))
 mask-same : (n : ℕ) (f g : ℕ → Bool) → ((k : ℕ) → k < n → f k ≡ g k) → maskBelow f n ≡ maskBelow g n
 mask-same zero f g h = refl
 mask-same (suc n) f g h = rw (mask-same n f g (λ k below. h k (omega (arith, below))), h n (omega arith)) refl
-
--- as many places as are counted
-pub places : {A : Type 0} (n : ℕ) (place : ℕ → A) → length (firstPlaces n place) ≡ n
-places zero place = refl
-places (suc n) place = omega (arith, length-append (firstPlaces n place) (place n ∷ []), places n place)
 
 -- what the rules print of a ledger
 abbrev ledgerLine : ℕ → ℕ → ℕ → Ledger → List ℕ
@@ -69,7 +65,7 @@ module _ (r : Record) (l : Ledger) (past : List Accepted) (k : Shows r l past) w
 
   pub end-shown : endOf r ≡ endLine (charged past) (discharged past) (length (longTerm (r .live .battery) past))
   unfolding longEntries
-  end-shown = rw (k .tally .charged, k .tally .discharged, sym (k .stores .long), places (r .stores .faults .count) _) refl
+  end-shown = rw (k .tally .charged, k .tally .discharged, sym (k .stores .long), length-first (r .stores .faults .count) (longEntry (r .stores .faults))) refl
 
 -- ---- the lines of a list of calls, and the last line
 

@@ -1,21 +1,19 @@
 -- What is shown of a live part and of a store is what the whole record shows. Assumes nothing.
-use Prim.Native.Nat.{ℕ, zero, suc, _+_}
+use Prim.Native.Nat.{ℕ, _+_}
 use mathlib.Core.Bool.{Bool, true, false, cond}
-use mathlib.Core.List.{List, [], _∷_}
-use mathlib.Core.Path.{_≡_, refl, sym, ap, _∙_}
+use mathlib.Core.Path.{_≡_, refl, sym}
 use native.Mathlib.Nat.{zero-add}
-use native.Mathlib.Numerals.{add-one}
-use lib.ListN.{length, length-append}
+use lib.ListN.{length}
 use Rattle.rules.specs.declared.battery.Live.{Live}
 use Rattle.rules.specs.declared.battery.Record.{Record}
 use Rattle.rules.specs.declared.stores.LongTerm.{LongTerm}
 use Rattle.rules.specs.declared.stores.ShortTerm.{ShortTerm}
 use Rattle.rules.specs.Numbers.{contactorNumber}
-use Rattle.rules.specs.Shown.{firstPlaces, longEntry, longEntries, shortEntry, shortEntries, trippedMask}
+use Rattle.rules.specs.Shown.{longEntry, longEntries, shortEntry, shortEntries, trippedMask}
+use Rattle.step.proofs.Lists.{length-first}
 use Rattle.step.specs.Close.{closes, contactor}
 use Rattle.step.specs.Sound.{at}
 use Rattle.step.specs.Print.{contactorOf, trippedOf}
-use Rattle.step.proofs.Printing.{places}
 
 pub contactor-is : (r : Record) → contactorOf (r .live) ≡ contactor r
 contactor-is r = refl
@@ -24,13 +22,14 @@ pub tripped-is : (r : Record) → trippedOf (r .live) ≡ trippedMask r
 unfolding trippedOf
 tripped-is r = refl
 
+-- as many entries as are counted
 pub long-length : (s : LongTerm) → s .count ≡ length (longEntries s)
 unfolding longEntries
-long-length s = sym (places (s .count) (longEntry s))
+long-length s = sym (length-first (s .count) (longEntry s))
 
 pub short-length : (s : ShortTerm) → s .count ≡ length (shortEntries s)
 unfolding shortEntries
-short-length s = sym (places (s .count) (shortEntry s))
+short-length s = sym (length-first (s .count) (shortEntry s))
 
 pub closed-is-1 : (l : Live) (b : Bool) → b ≡ closes l → b ≡ true → 1 ≡ contactorNumber (contactorOf l)
 closed-is-1 l b e h = rw (← e, h) refl

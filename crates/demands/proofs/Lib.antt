@@ -1,4 +1,5 @@
 pub mod Listed
 pub mod First
+pub mod Exports
 pub mod Second
 pub mod Third

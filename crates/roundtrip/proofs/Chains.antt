@@ -12,7 +12,7 @@ use Rattle.rules.specs.Numbers.{bytes, answerOfWrite}
 use Rattle.rules.specs.declared.answers.Written.{Written}
 use Rattle.rules.specs.declared.answers.Written.the-variants.{Bytes, Refused}
 use Rattle.roundtrip.proofs.Forms.{read-back, Again, read-again}
-use Rattle.roundtrip.specs.Chains.{Items, Reader, Writer, itemBytes, allBytes, AllInRange, ReadsBack, ReadToEnd, ended, ReadToEnd.one as read-one, Wrote, none, Wrote.one as wrote-next, WrittenAgain, Whole}
+use Rattle.roundtrip.specs.Chains.{Items, Reader, Writer, itemBytes, allBytes, AllInRange, ReadsBack, ReadAs, ReadToEnd, ended, ReadToEnd.one as read-one, Wrote, none, Wrote.one as wrote-next, WrittenAgain, Whole}
 
 module _ (I : Items) where
   -- ---- reading
@@ -40,6 +40,14 @@ module _ (I : Items) where
     read-to-end (ended {at} g) =
         drop-of-length-le (log .now) (read-end (I .forms) (log .now) at .1 (sym (R .right g) ∙ R .of-end))
     read-to-end (read-one {x = x} g more) = gave g .bytes ∙ ap (λ (l : List ℕ). itemBytes I x ++ l) (read-to-end more)
+
+  -- the bytes of items in range, in a log of just them
+  pub all-read : (R : Reader I) (written : List ℕ) (n : ℕ) (xs : List (I .Item)) → AllInRange I xs → written ≡ allBytes I xs → n ≡ length written
+      → ReadAs I R written n xs
+  all-read R written n xs h is count = record {
+    items = λ log e. reads-back R log xs 0 h (e ∙ is);
+    ends = λ log e. reads-back R log [] n tt (drop-of-length-le (log .now) {i = n} (omega (arith, count, ap length e)));
+  }
 
   -- ---- writing
 

@@ -74,6 +74,11 @@ module _ (I : Items) where
       ended : {at : ℕ} → R .Allows log at (R .End) → ReadToEnd at []
       one : {at next : ℕ} {x : I .Item} {xs : List (I .Item)} → R .Allows log at (R .Found x next) → ReadToEnd next xs → ReadToEnd at (x ∷ xs)
 
+  -- Bytes that read, in any log of just them, as these items in order from the start on, and as "end" at position n.
+  pub record ReadAs (R : Reader I) (written : List ℕ) (n : ℕ) (xs : List (I .Item)) : Type 0 where
+    pub items : (log : RefT (List ℕ)) → log .now ≡ written → ReadsBack R log 0 xs
+    pub ends : (log : RefT (List ℕ)) → log .now ≡ written → (r : R .Answer) → R .Allows log n r → r ≡ R .End
+
   -- ---- writing
 
   module _ (W : Writer I) where

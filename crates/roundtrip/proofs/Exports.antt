@@ -1,0 +1,85 @@
+-- What an export wrote reads back as the store's entries and then "end", through the contracts of the exports and of `read_entry`.
+-- Assumes nothing.
+use Prim.Native.Nat.{ℕ, zero, suc, _≤_, _<_}
+use mathlib.Core.Bool.{Bool, true, false}
+use mathlib.Core.List.{List, [], _∷_, _++_}
+use mathlib.Core.Path.{_≡_, refl, sym, ap, ap₂, _∙_}
+use native.Mathlib.Omega.{arith}
+use contract.Lifetimes.{Lfts}
+use lib.IntN.{ℤ}
+use lib.ListN.{length, getD, take, drop}
+use lib.Seq.{take-at}
+use mir.Syntax.{w32}
+use mir.Val.{SFits}
+use Rattle.rules.specs.Bytes.{InRange, entryForms}
+use Rattle.rules.specs.Numbers.{bytes, entryKind, entryValues}
+use Rattle.rules.specs.Shown.{firstPlaces, longEntry, longEntries, shortEntry, shortEntries, entryOf}
+use Rattle.rules.specs.Soundness.{NumbersBelow8}
+use Rattle.rules.specs.declared.battery.Record.{Record}
+use Rattle.rules.specs.declared.stores.Entry.{Entry}
+use Rattle.rules.specs.declared.stores.LongTerm.{LongTerm}
+use Rattle.rules.specs.declared.stores.ShortTerm.{ShortTerm}
+use Rattle.rules.specs.declared.units.Milliseconds.{Milliseconds}
+use Rattle.words.proofs.Ranges.{within}
+use Rattle.export.proofs.Allowed.{CodeLong, CodeShort, long-wrote, short-wrote}
+use Rattle.export.specs.Exports.{InMachine}
+use Rattle.export.specs.Exports.{allBytes as exportBytes}
+use Rattle.roundtrip.proofs.Chains.{all-read}
+use Rattle.roundtrip.proofs.Entries.{entries, entry-due, reader}
+use Rattle.roundtrip.specs.Chains.{allBytes, AllInRange, ReadAs}
+
+-- ---- the entries of a store are in range
+
+entry-range : (release : Bool) (t : Milliseconds) (number : ℕ) (value : ℤ) → t .0 < 4_294_967_296 → number ≤ 7 → SFits w32 value
+    → InRange entryForms (entryKind (entryOf release t number value)) (entryValues (entryOf release t number value))
+entry-range true t number value time listed fits =
+    record { known = refl; fields = (time, ((omega (arith, listed), within 8 0 number (omega arith) (omega (arith, listed))), tt)) }
+entry-range false t number value time listed fits =
+    record { known = refl; fields = (time, ((omega (arith, listed), within 8 0 number (omega arith) (omega (arith, listed))), (fits, tt))) }
+
+range-append : (xs ys : List Entry) → AllInRange entries xs → AllInRange entries ys → AllInRange entries (xs ++ ys)
+range-append [] ys f g = g
+range-append (x ∷ xs) ys f g = (f .0, range-append xs ys (f .1) g)
+
+range-first : (place : ℕ → Entry) (n : ℕ) → ((i : ℕ) → i < n → InRange entryForms (entryKind (place i)) (entryValues (place i)))
+    → AllInRange entries (firstPlaces n place)
+range-first place zero each = tt
+range-first place (suc n) each =
+    range-append (firstPlaces n place) (place n ∷ []) (range-first place n (λ i h. each i (omega (arith, h)))) (each n (omega arith), tt)
+
+long-range : (s : LongTerm) → NumbersBelow8 (s .count) (s .protections) → InMachine (s .times) (s .values) → AllInRange entries (longEntries s)
+unfolding longEntries
+long-range s numbers machine =
+    range-first (longEntry s) (s .count) (λ i h. entry-range false _ _ _ (machine i .0) (numbers i h) (machine i .1))
+
+short-range : (s : ShortTerm) → NumbersBelow8 (s .count) (s .protections) → InMachine (s .times) (s .values) → AllInRange entries (shortEntries s)
+unfolding shortEntries
+short-range s numbers machine =
+    range-first (shortEntry s) (s .count) (λ i h. entry-range (getD (s .releases) i false) _ _ _ (machine i .0) (numbers i h) (machine i .1))
+
+-- ---- and the bytes due are those of the round trips
+
+same-bytes : (es : List Entry) → exportBytes es ≡ allBytes entries es
+same-bytes [] = refl
+same-bytes (e ∷ es) = ap₂ (λ (x y : List ℕ). x ++ y) (entry-due e) (same-bytes es)
+
+module _ (κs : Lfts 1) where
+  read-as : (es : List Entry) (buffer left : List ℕ) (n : ℕ) → AllInRange entries es → n ≡ length (exportBytes es)
+      → left ≡ exportBytes es ++ drop (length (exportBytes es)) buffer → ReadAs entries (reader κs) (take n left) n es
+  read-as es buffer left n range count contents =
+      let is : take n left ≡ exportBytes es = ap (take n) contents ∙ take-at (exportBytes es) _ n (sym count) in
+      all-read entries (reader κs) (take n left) n es range (is ∙ same-bytes es) (count ∙ sym (ap length is))
+
+  -- Of every record and buffer for which `export_long` answers n: the first n bytes read as the long-term entries in order, then "end" at n.
+  pub long-export-reads-back : (r : Record) (buffer left : List ℕ) (n : ℕ) → CodeLong r buffer (bytes n) left
+      → ReadAs entries (reader κs) (take n left) n (longEntries (r .stores .faults))
+  long-export-reads-back r buffer left n c =
+      let w = long-wrote c in
+      read-as (longEntries (r .stores .faults)) buffer left n (long-range (r .stores .faults) (w .sound .longNumbers) (w .machine)) (w .count) (w .contents)
+
+  -- The same of `export_short` and the short-term entries.
+  pub short-export-reads-back : (r : Record) (buffer left : List ℕ) (n : ℕ) → CodeShort r buffer (bytes n) left
+      → ReadAs entries (reader κs) (take n left) n (shortEntries (r .stores .recent))
+  short-export-reads-back r buffer left n c =
+      let w = short-wrote c in
+      read-as (shortEntries (r .stores .recent)) buffer left n (short-range (r .stores .recent) (w .sound .shortNumbers) (w .machine)) (w .count) (w .contents)

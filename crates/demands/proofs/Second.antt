@@ -1,15 +1,20 @@
--- Demand 2, its first clause: "After every list of calls the record shows what document 01 lays down", part by part, of every run of
--- the code from the fresh record of a type. Assumes nothing.
+-- Demand 2, clause by clause. Assumes nothing.
 use mathlib.Core.Path.{_≡_}
 use mathlib.Core.Logic.{_↔_}
 use mathlib.Core.List.{List}
 use Prim.Native.Nat.{ℕ, _<_}
+use contract.Lifetimes.{Lfts}
+use denote.Ref.{RefT}
 use lib.Dec.{T}
+use lib.ListN.{take}
 use Rattle.rules.specs.declared.states.Contactor.{Contactor}
 use Rattle.rules.specs.declared.calls.Event.{Event}
+use Rattle.rules.specs.declared.stores.Entry.{Entry}
 use Rattle.rules.specs.declared.battery.Record.{Record}
+use Rattle.rules.specs.declared.answers.ReadEvent.the-variants.{Found as FoundEvent}
+use Rattle.rules.specs.declared.answers.ReadEntry.the-variants.{Found as FoundEntry}
 use Rattle.rules.specs.Quantities.{isType}
-use Rattle.rules.specs.Numbers.{stateNumber, commandNumber, overrideNumber, testNumber, contactorNumber}
+use Rattle.rules.specs.Numbers.{stateNumber, commandNumber, overrideNumber, testNumber, contactorNumber, bytes}
 use Rattle.rules.specs.Ledger.{ledger, refusals, accepted, testOf, failedMaskOf, failedCountOf, TrippedOn}
 use Rattle.rules.specs.Stores.{longTerm, shortTerm}
 use Rattle.rules.specs.Accounts.{charged, discharged}
@@ -17,7 +22,17 @@ use Rattle.rules.specs.Contactor.{Closed}
 use Rattle.rules.specs.Shown.{keptOf, longEntries, shortEntries}
 use Rattle.rules.specs.Soundness.{Sound}
 use Rattle.rules.specs.Claims.{AfterList}
+use Rattle.export.specs.Claims.{StoresExported}
+use Rattle.export.proofs.Allowed.{CodeLong, CodeShort}
+use Rattle.roundtrip.specs.Chains.{AllInRange, ReadsBack, ReadAs, ReadToEnd, Wrote, WrittenAgain, Whole}
+use Rattle.roundtrip.proofs.Events.{events, reader as event-reader, writer as event-writer, events-written-then-read, event-read-then-written, event-log-whole}
+use Rattle.roundtrip.proofs.Entries.{entries, reader as entry-reader, writer as entry-writer, entries-written-then-read, entry-read-then-written, entry-log-whole}
+use Rattle.roundtrip.proofs.Exports.{long-export-reads-back, short-export-reads-back}
 use Rattle.engine.proofs.Chain.{CodeRun, code-after-every-list}
+use Rattle.demands.proofs.Exports.{exports-after-every-list}
+
+-- ---- "After every list of calls the record shows what document 01 lays down", part by part, of every run of the code from the fresh
+-- record of a type
 
 module _
     (battery : ℕ)
@@ -75,8 +90,50 @@ module _
   pub short-term-is : shortEntries (after .stores .recent) ≡ shortTerm battery (accepted calls)
   short-term-is = owed .shortTerm
 
+  -- both stores as the exports write them, oldest entry first, into any buffer
+  pub stores-are-exported : StoresExported CodeLong CodeShort battery calls after
+  stores-are-exported = exports-after-every-list battery type calls given after closing run
+
   pub record-is-sound : Sound after
   record-is-sound = owed .sound
 
   pub contactor-is : (contactorNumber closing ≡ 1) ↔ Closed battery (ledger calls)
   contactor-is = owed .closed
+
+  -- what was exported reads back as the store that document 01 lays down, and then as "end" where it ends
+  pub exported-long-term-reads-back : (κs : Lfts 1) (buffer left : List ℕ) (n : ℕ) → CodeLong after buffer (bytes n) left
+      → ReadAs entries (entry-reader κs) (take n left) n (longTerm battery (accepted calls))
+  exported-long-term-reads-back κs buffer left n c = rw (← long-term-is) (long-export-reads-back κs after buffer left n c)
+
+  pub exported-short-term-reads-back : (κs : Lfts 1) (buffer left : List ℕ) (n : ℕ) → CodeShort after buffer (bytes n) left
+      → ReadAs entries (entry-reader κs) (take n left) n (shortTerm battery (accepted calls))
+  exported-short-term-reads-back κs buffer left n c = rw (← short-term-is) (short-export-reads-back κs after buffer left n c)
+
+module _ (κs : Lfts 1) where
+  -- ---- "each event or stored record written reads back as itself": any number of them, written one after the other
+
+  pub events-read-back : {es : List Event} {before after : List ℕ} {used : ℕ} → AllInRange events es → Wrote events (event-writer κs) es before after used
+      → (log : RefT (List ℕ)) → log .now ≡ take used after → ReadsBack events (event-reader κs) log 0 es
+  events-read-back = events-written-then-read κs
+
+  pub entries-read-back : {es : List Entry} {before after : List ℕ} {used : ℕ} → AllInRange entries es → Wrote entries (entry-writer κs) es before after used
+      → (log : RefT (List ℕ)) → log .now ≡ take used after → ReadsBack entries (entry-reader κs) log 0 es
+  entries-read-back = entries-written-then-read κs
+
+  -- ---- "and what is read is written again as the same bytes": one by one, and a log as a whole
+
+  pub event-written-again : (log : RefT (List ℕ)) (at next : ℕ) (e : Event) → event-reader κs .Allows log at (FoundEvent e next)
+      → WrittenAgain events (event-writer κs) (log .now) at e next
+  event-written-again = event-read-then-written κs
+
+  pub entry-written-again : (log : RefT (List ℕ)) (at next : ℕ) (e : Entry) → entry-reader κs .Allows log at (FoundEntry e next)
+      → WrittenAgain entries (entry-writer κs) (log .now) at e next
+  entry-written-again = entry-read-then-written κs
+
+  pub event-log-written-again : {log : RefT (List ℕ)} {es : List Event} → ReadToEnd events (event-reader κs) log 0 es
+      → Whole events (event-writer κs) (log .now) es
+  event-log-written-again = event-log-whole κs
+
+  pub entry-log-written-again : {log : RefT (List ℕ)} {es : List Entry} → ReadToEnd entries (entry-reader κs) log 0 es
+      → Whole entries (entry-writer κs) (log .now) es
+  entry-log-written-again = entry-log-whole κs

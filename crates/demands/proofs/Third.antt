@@ -15,7 +15,10 @@ use Rattle.rules.specs.Contactor.{Closed, ContactorsDiffer}
 use Rattle.rules.specs.Alike.{Alike}
 use Rattle.rules.specs.Shown.{keptOf, longEntries, shortEntries}
 use Rattle.rules.specs.Claims.{AfterList, TwoRuns}
+use Rattle.export.specs.Claims.{StoresExported, SameExports}
+use Rattle.export.proofs.Allowed.{CodeLong, CodeShort}
 use Rattle.engine.proofs.Chain.{CodeRun, code-any-two-lists}
+use Rattle.demands.proofs.Exports.{exports-after-every-list, exports-of-any-two-lists}
 
 module _
     (battery : ℕ)
@@ -75,12 +78,22 @@ module _
   pub same-short-term : shortEntries (after₁ .stores .recent) ≡ shortEntries (after₂ .stores .recent)
   same-short-term = owed .shortTerm
 
+  -- and as the exports write them: the same answer and the same bytes, whatever the buffer
+  pub same-exports : SameExports CodeLong CodeShort after₁ after₂
+  same-exports = exports-of-any-two-lists battery type calls₁ calls₂ alike given₁ given₂ after₁ after₂ closing₁ closing₂ run₁ run₂
+
   -- "each as document 01 lays it down for either list"
   pub laid-down-for-the-first : AfterList battery calls₁ given₁ after₁ closing₁
   laid-down-for-the-first = owed .laidDown₁
 
   pub laid-down-for-the-second : AfterList battery calls₂ given₂ after₂ closing₂
   laid-down-for-the-second = owed .laidDown₂
+
+  pub exported-for-the-first : StoresExported CodeLong CodeShort battery calls₁ after₁
+  exported-for-the-first = exports-after-every-list battery type calls₁ given₁ after₁ closing₁ run₁
+
+  pub exported-for-the-second : StoresExported CodeLong CodeShort battery calls₂ after₂
+  exported-for-the-second = exports-after-every-list battery type calls₂ given₂ after₂ closing₂ run₂
 
   -- "Their contactors differ exactly when override is in force in just one run, state, command and test permit closing, and one or more
   -- protections are tripped, all of them liftable."

@@ -18,6 +18,7 @@ use Rattle.rules.specs.declared.battery.Tally.{Tally}
 use Rattle.rules.specs.declared.battery.Live.{Live}
 use Rattle.rules.specs.declared.battery.Record.{Record}
 use Rattle.rules.specs.declared.answers.Outcome.{Outcome}
+use Rattle.rules.specs.Quantities.{ms}
 use Rattle.step.specs.Sound.{soundLive, soundStores}
 use Rattle.step.specs.Refusal.{refusal, refusalLive}
 use Rattle.step.specs.Charge.{inflow, outflow, charge}
@@ -32,12 +33,12 @@ use Rattle.engine.specs.Judging.{touches, judgedBy, judged, joined}
 -- ---- the accounts
 
 module _ (previous : Previous) (plausible : Bool) (t : Milliseconds) (n : Tally) where
-  pub charged : (start : Milliseconds) (i : Milliamperes) (d a b : ℕ) → previous ≡ Frame start i → plausible ≡ true → d ≡ t .0 - start .0
-      → a ≡ inflow (i .0) d → b ≡ outflow (i .0) d
+  pub charged : (start : Milliseconds) (i : Milliamperes) (d : Milliseconds) (a b : ℕ) → previous ≡ Frame start i → plausible ≡ true
+      → d ≡ ms (t .0 - start .0) → a ≡ inflow (i .0) (d .0) → b ≡ outflow (i .0) (d .0)
       → _≡_ {A = Tally} (record { commands = n .commands; charged = record { 0 = n .charged .0 + a }; discharged = record { 0 = n .discharged .0 + b } })
       (charge previous plausible t n)
   unfolding charge
-  charged start i d a b e p d-is a-is b-is = rw (e, p, a-is, b-is, d-is) refl
+  charged start i d a b e p d-is a-is b-is = rw (e, p, a-is, b-is, ap (λ (x : Milliseconds). x .0) d-is) refl
 
   pub not-charged : (start : Milliseconds) (i : Milliamperes) → previous ≡ Frame start i → plausible ≡ false → n ≡ charge previous plausible t n
   unfolding charge

@@ -1,7 +1,7 @@
 // What an accepted call makes of the live part of a record.
 ghost use mathlib.Core.Path.{_≡_};
 ghost use mathlib.Core.Bool.{true};
-ghost use Prim.Native.Nat.{_-_, _≤_, _<_};
+ghost use Prim.Native.Nat.{_≤_, _<_};
 ghost use Rattle.step.specs.Sound.{soundLive};
 ghost use Rattle.step.specs.Refusal.{refusalLive};
 ghost use Rattle.step.specs.Charge.{charge as chargeOf};
@@ -17,16 +17,6 @@ use rules::tracking::Previous;
 use rules::units::Charge;
 use rules::units::Milliseconds;
 
-// Zero where the start is later.
-fn elapsed(start: Milliseconds, t: Milliseconds) -> u32
-    ensures { λ d. ⌜ d ≡ t .0 - start .0 ⌝ }
-{
-    if start.0 <= t.0 {
-        return t.0 - start.0;
-    }
-    0
-}
-
 // The accounts of a sound record have room for what one measurement can add.
 fn charge(previous: Previous, plausible: bool, t: Milliseconds, n: Tally) -> Tally
     requires { ⌜ (n .charged .0 ≤ 691_200_000_000_000) × (n .discharged .0 ≤ 691_200_000_000_000) ⌝ }
@@ -36,11 +26,11 @@ fn charge(previous: Previous, plausible: bool, t: Milliseconds, n: Tally) -> Tal
         Previous::Nothing => n,
         Previous::Frame(start, i) => {
             if plausible {
-                let d = elapsed(start, t);
+                let d = tracking::elapsed(start, t);
                 let into = n.charged;
                 let out = n.discharged;
-                let charged = Charge(into.0 + account::inflow(i, d));
-                let discharged = Charge(out.0 + account::outflow(i, d));
+                let charged = Charge(into.0 + account::inflow(i, d.0));
+                let discharged = Charge(out.0 + account::outflow(i, d.0));
                 return Tally {
                     charged,
                     discharged,

@@ -40,7 +40,7 @@ fn span_at(beyond: bool, within: bool, t: Milliseconds, span: Span) -> Span
 }
 
 // Zero where the start is later.
-fn elapsed(start: Milliseconds, t: Milliseconds) -> Milliseconds
+pub fn elapsed(start: Milliseconds, t: Milliseconds) -> Milliseconds
     ensures { λ d. ⌜ d ≡ ms (t .0 - start .0) ⌝ }
 {
     if start.0 <= t.0 {

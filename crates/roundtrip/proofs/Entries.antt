@@ -9,6 +9,7 @@ use borrow.Author.Tests.{le-ltb}
 use lib.ListN.{length, take}
 use denote.Ref.{RefT}
 use contract.Lifetimes.{Lfts}
+use Rattle.rules.proofs.Injective.{read-entry-injective}
 use Rattle.rules.specs.Bytes.{isIn, InRange, entryForms, entryBytes, protectionOf, entryWriteRefusal}
 use Rattle.rules.specs.Numbers.{entryKind, entryValues, answerOfReadEntry}
 use Rattle.rules.specs.declared.answers.ReadEntry.{ReadEntry}
@@ -20,7 +21,6 @@ use Rattle.words.specs.Decoding.{numbersFrom}
 use Rattle.entries.proofs.read.read_entry.Reads as read-entry
 use Rattle.entries.proofs.write.write_entry.Reads as write-entry
 use Rattle.roundtrip.proofs.Chains.{written-then-read, read-then-written, whole-log}
-use Rattle.roundtrip.proofs.Inverse.{same-entry-read}
 use Rattle.roundtrip.specs.Chains.{Items, Reader, Writer, bytesOf, AllInRange, ReadsBack, ReadToEnd, Wrote, WrittenAgain, Whole}
 
 abbrev pub entries : Items
@@ -56,7 +56,7 @@ module _ (κs : Lfts 1) where
     answer = answerOfReadEntry;
     of-found = λ e next. refl;
     of-end = refl;
-    same = same-entry-read;
+    same = read-entry-injective;
     Allows = λ log at r. read-entry.Post κs (log, (at, tt)) r (log, (at, tt));
     right = λ allowed. allowed .0;
     logged = λ allowed. allowed .1;

@@ -6,6 +6,7 @@ use borrow.Author.Tests.{le-ltb}
 use lib.ListN.{length, take}
 use denote.Ref.{RefT}
 use contract.Lifetimes.{Lfts}
+use Rattle.rules.proofs.Injective.{read-event-injective}
 use Rattle.rules.specs.Bytes.{eventForms, eventBytes, eventWriteRefusal}
 use Rattle.rules.specs.Numbers.{eventKind, eventValues, answerOfReadEvent}
 use Rattle.rules.specs.declared.answers.ReadEvent.{ReadEvent}
@@ -14,7 +15,6 @@ use Rattle.rules.specs.declared.calls.Event.{Event}
 use Rattle.events.proofs.read.read_event.Reads as read-event
 use Rattle.events.proofs.write.write_event.Reads as write-event
 use Rattle.roundtrip.proofs.Chains.{written-then-read, read-then-written, whole-log}
-use Rattle.roundtrip.proofs.Inverse.{same-event-read}
 use Rattle.roundtrip.specs.Chains.{Items, Reader, Writer, bytesOf, AllInRange, ReadsBack, ReadToEnd, Wrote, WrittenAgain, Whole}
 
 abbrev pub events : Items
@@ -37,7 +37,7 @@ module _ (κs : Lfts 1) where
     answer = answerOfReadEvent;
     of-found = λ e next. refl;
     of-end = refl;
-    same = same-event-read;
+    same = read-event-injective;
     Allows = λ log at r. read-event.Post κs (log, (at, tt)) r (log, (at, tt));
     right = λ allowed. allowed .0;
     logged = λ allowed. allowed .1;

@@ -2,7 +2,6 @@ pub mod Digits
 pub mod Fields
 pub mod Forms
 pub mod Chains
-pub mod Inverse
 pub mod Events
 pub mod Entries
 pub mod Exports

@@ -17,13 +17,6 @@ pub is-true : (b : Bool) → T b ↔ (b ≡ true)
 is-true true = (λ h. refl, λ e. tt)
 is-true false = (λ h. absurd h, λ e. subst T (sym e) tt)
 
--- two tests of one statement are one test
-pub same-test : (a b : Bool) {X : Type 0} → T a ↔ X → T b ↔ X → a ≡ b
-same-test true true p q = refl
-same-test true false p q = absurd (q .1 (p .0 tt))
-same-test false true p q = absurd (p .1 (q .0 tt))
-same-test false false p q = refl
-
 -- every test of a list, as a product
 abbrev pub Each : List Bool → Type 0
 Each [] = Unit {0}

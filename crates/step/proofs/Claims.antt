@@ -17,13 +17,13 @@ use Rattle.rules.specs.Contactor.{Closed, ContactorsDiffer}
 use Rattle.rules.specs.Alike.{Alike}
 use Rattle.rules.specs.Shown.{keptOf, longEntries, shortEntries}
 use Rattle.rules.specs.Claims.{Engine, AfterList, AfterEveryList, TwoRuns, AnyTwoLists, FreshOf, Refused, OnEveryRecord}
-use Rattle.rules.proofs.Decide.{is-tripped}
+use Rattle.rules.proofs.Decide.{is-tripped, same-test}
 use Rattle.step.specs.Fresh.{freshRecord, fresh}
 use Rattle.step.specs.Sound.{sound}
 use Rattle.step.specs.Refusal.{refusal, refusalLive}
 use Rattle.step.specs.Close.{closes, contactor}
 use Rattle.step.specs.Call.{advance, answer, call, run, answers}
-use Rattle.step.proofs.Bools.{and-iff, is-true, same-test}
+use Rattle.step.proofs.Bools.{and-iff, is-true}
 use Rattle.step.proofs.Refusals.{by-table, table-listed, table-not-5}
 use Rattle.step.proofs.Sounds.{sound-is, type-is}
 use Rattle.step.proofs.Shows.{Shows, shows-fresh}

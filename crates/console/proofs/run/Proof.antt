@@ -1,0 +1,78 @@
+use Rattle.console.proofs.Bounds.{not-empty}
+use borrow.Author.Needs.{needs}
+use Rattle.console.proofs.run.Statement.{statement}
+use Rattle.console.proofs.run.Tie as tie
+use Rattle.console.proofs.run.Reads as reads
+use Rattle.console.proofs.run.Lts as lts
+use Rattle.console.proofs.parts.all.Reads as all-reads
+use Rattle.console.proofs.parts.cannot_read.Reads as cannot-read-reads
+use Rattle.console.proofs.parts.close.Reads as close-reads
+use Rattle.console.proofs.transfer.read_some.Reads as read-some-reads
+use Rattle.io.proofs.count.Reads as count-reads
+use Rattle.io.proofs.large_buffer.Reads as large-buffer-reads
+use Rattle.report.proofs.opening.Reads as opening-reads
+
+large-buffer-requires : tie.Need-large-buffer-requires
+large-buffer-requires c κs = search needs
+
+slice-aggregate-read-some : tie.Need-slice-aggregate-read-some
+slice-aggregate-read-some c = search needs
+
+read-some-requires : tie.Need-read-some-requires
+read-some-requires c κs = search needs
+
+cannot-read-requires : tie.Need-cannot-read-requires
+cannot-read-requires c κs = search needs
+
+returns : tie.Need-returns
+returns c = search needs
+
+slice-aggregate-count : tie.Need-slice-aggregate-count
+slice-aggregate-count c = search needs
+
+count-requires : tie.Need-count-requires
+count-requires c κs = search needs
+
+array-share-prefix-bytes : tie.Need-array-share-prefix-bytes
+array-share-prefix-bytes c = search needs
+
+slice-aggregate-opening : tie.Need-slice-aggregate-opening
+slice-aggregate-opening c = search needs
+
+opening-requires : tie.Need-opening-requires
+opening-requires c κs = search needs
+
+close-requires : tie.Need-close-requires
+close-requires c κs = search needs
+
+returns-2 : tie.Need-returns-2
+returns-2 c = search needs
+
+slice-aggregate-all : tie.Need-slice-aggregate-all
+slice-aggregate-all c = search needs
+
+all-requires : tie.Need-all-requires
+all-requires c κs = (not-empty _ _ (c .before .if2 .left), search needs)
+
+returns-3 : tie.Need-returns-3
+returns-3 c = search needs
+
+pub run-spec : {M : Type 1} → statement M
+run-spec =
+    tie.close
+    (tie.spec
+    large-buffer-requires
+    slice-aggregate-read-some
+    read-some-requires
+    cannot-read-requires
+    returns
+    slice-aggregate-count
+    count-requires
+    array-share-prefix-bytes
+    slice-aggregate-opening
+    opening-requires
+    close-requires
+    returns-2
+    slice-aggregate-all
+    all-requires
+    returns-3)

@@ -1,0 +1,80 @@
+use borrow.Author.Needs.{needs}
+use lib.ListN.{length}
+use native.Mathlib.Omega.{arith}
+use mathlib.Core.Path.{_≡_}
+use Prim.Native.Nat.{_≤_, _-_}
+use Rattle.console.proofs.transfer.write_all.Statement.{statement}
+use Rattle.console.proofs.transfer.write_all.Tie as tie
+use Rattle.console.proofs.transfer.write_all.Reads as reads
+use Rattle.console.proofs.transfer.write_all.Lts as lts
+use Rattle.console.proofs.transfer.write_some.Reads as write-some-reads
+use Rattle.io.proofs.count.Reads as count-reads
+
+abbrev Inv-loop : tie.InvT-loop
+Inv-loop fd buffer done₀ done = done ≤ length buffer
+
+abbrev μ-loop : tie.MeasureT-loop
+μ-loop fd buffer done₀ done = length buffer - done
+
+loop-holds : tie.Need-loop-holds Inv-loop μ-loop
+loop-holds c = search needs
+
+sub-write-some : tie.Need-sub-write-some Inv-loop μ-loop
+sub-write-some c = search needs
+
+part-write-some-start : tie.Need-part-write-some-start Inv-loop μ-loop
+part-write-some-start c = search needs
+
+part-write-some-end : tie.Need-part-write-some-end Inv-loop μ-loop
+part-write-some-end c = search needs
+
+write-some-requires : tie.Need-write-some-requires Inv-loop μ-loop
+write-some-requires c κs = search needs
+
+sub-count : tie.Need-sub-count Inv-loop μ-loop
+sub-count c = search needs
+
+part-count-start : tie.Need-part-count-start Inv-loop μ-loop
+part-count-start c = search needs
+
+part-count-end : tie.Need-part-count-end Inv-loop μ-loop
+part-count-end c = search needs
+
+count-requires : tie.Need-count-requires Inv-loop μ-loop
+count-requires c κs = search needs
+
+returns : tie.Need-returns Inv-loop μ-loop
+returns c = search needs
+
+add-done : tie.Need-add-done Inv-loop μ-loop
+add-done c = search needs
+
+loop-less : tie.Need-loop-less Inv-loop μ-loop
+loop-less c = search needs
+
+loop-again : tie.Need-loop-again Inv-loop μ-loop
+loop-again c = search needs
+
+returns-2 : tie.Need-returns-2 Inv-loop μ-loop
+returns-2 c = search needs
+
+pub write-all-spec : {M : Type 1} → statement M
+write-all-spec =
+    tie.close
+    (tie.spec
+    Inv-loop
+    μ-loop
+    loop-holds
+    sub-write-some
+    part-write-some-start
+    part-write-some-end
+    write-some-requires
+    sub-count
+    part-count-start
+    part-count-end
+    count-requires
+    returns
+    add-done
+    loop-less
+    loop-again
+    returns-2)

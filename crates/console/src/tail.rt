@@ -1,0 +1,20 @@
+// The end of a buffer that has not been read yet.
+ghost use mathlib.Core.Path.{_≡_};
+ghost use Prim.Native.Nat.{_-_, _≤_};
+ghost use lib.ListN.{length};
+ghost use Rattle.console.specs.Tail.{tailFirst};
+
+// Moves what stands from `from` up to `to` to the front, and answers how long it is; what stands behind it is as it was.
+pub(crate) fn to_front(buffer: &mut [u8], from: usize, to: usize) -> usize
+    requires { ⌜ (from ≤ to) × (to ≤ length (now buffer)) ⌝ }
+    ensures { λ n. ⌜ n ≡ to - from ⌝ }
+    ensures { λ _. ⌜ now (buffer .exit) ≡ tailFirst from to (now (buffer .entry)) ⌝ }
+{
+    let n = to - from;
+    let mut i: usize = 0;
+    while i < n {
+        buffer[i] = buffer[from + i];
+        i += 1;
+    }
+    n
+}

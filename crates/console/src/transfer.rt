@@ -1,0 +1,53 @@
+// Reads and writes that a signal does not break off.
+ghost use lib.ListN.{length};
+ghost use Rattle.libc.specs.Io.{Moved};
+
+// One read that a signal did not break off: how many bytes it put at the start of the buffer, 0 at the end of the input, -1 where it
+// failed.
+pub(crate) fn read_some(fd: i32, buffer: &mut [u8]) -> isize
+    ensures { λ r. ⌜ Moved (length (now (buffer .entry))) r ⌝ }
+{
+    let mut turns = u64::MAX;
+    while turns > 0 {
+        let got = libc::read(fd, buffer);
+        if got >= 0 {
+            return got;
+        }
+        if os::errno() != libc::EINTR {
+            return got;
+        }
+        turns -= 1;
+    }
+    -1
+}
+
+fn write_some(fd: i32, buffer: &[u8]) -> isize
+    ensures { λ r. ⌜ Moved (length (now (buffer .entry))) r ⌝ }
+{
+    let mut turns = u64::MAX;
+    while turns > 0 {
+        let put = libc::write(fd, buffer);
+        if put >= 0 {
+            return put;
+        }
+        if os::errno() != libc::EINTR {
+            return put;
+        }
+        turns -= 1;
+    }
+    -1
+}
+
+// Whether all of the buffer was written. Where it was not, errno says why.
+pub(crate) fn write_all(fd: i32, buffer: &[u8]) -> bool {
+    let mut done: usize = 0;
+    while done < buffer.len() {
+        let put = write_some(fd, &buffer[done..]);
+        let n = io::count(put, &buffer[done..]);
+        if n == 0 {
+            return false;
+        }
+        done += n;
+    }
+    true
+}

@@ -1,6 +1,6 @@
 -- What a read may answer depends on the buffer's length alone.
 use Prim.Native.Nat.{ℕ}
-use mathlib.Core.Path.{_≡_, sym, subst}
+use mathlib.Core.Path.{_≡_, sym}
 use lib.IntN.{ℤ}
 use Rattle.libc.specs.Io.{Moved}
 

@@ -2,15 +2,6 @@ use Rattle.console.proofs.Bounds.{not-empty}
 use borrow.Author.Needs.{needs}
 use Rattle.console.proofs.run.Statement.{statement}
 use Rattle.console.proofs.run.Tie as tie
-use Rattle.console.proofs.run.Reads as reads
-use Rattle.console.proofs.run.Lts as lts
-use Rattle.console.proofs.parts.all.Reads as all-reads
-use Rattle.console.proofs.parts.cannot_read.Reads as cannot-read-reads
-use Rattle.console.proofs.parts.close.Reads as close-reads
-use Rattle.console.proofs.transfer.read_some.Reads as read-some-reads
-use Rattle.io.proofs.count.Reads as count-reads
-use Rattle.io.proofs.large_buffer.Reads as large-buffer-reads
-use Rattle.report.proofs.opening.Reads as opening-reads
 
 large-buffer-requires : tie.Need-large-buffer-requires
 large-buffer-requires c κs = search needs

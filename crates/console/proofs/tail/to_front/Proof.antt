@@ -1,4 +1,3 @@
-use borrow.Author.Needs.{needs}
 use lib.ListN.{length, length-set}
 use Rattle.console.proofs.Front.{moved, one-more, all-moved}
 use native.Mathlib.Omega.{arith}
@@ -6,8 +5,6 @@ use mathlib.Core.Path.{_≡_, refl}
 use Prim.Native.Nat.{_≤_, _-_}
 use Rattle.console.proofs.tail.to_front.Statement.{statement}
 use Rattle.console.proofs.tail.to_front.Tie as tie
-use Rattle.console.proofs.tail.to_front.Reads as reads
-use Rattle.console.proofs.tail.to_front.Lts as lts
 
 abbrev Inv-loop : tie.InvT-loop
 Inv-loop buffer₀ from to n i₀ buffer i = (i ≤ n) × (length buffer ≡ length buffer₀) × (buffer ≡ moved buffer₀ from i)

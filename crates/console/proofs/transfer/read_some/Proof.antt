@@ -3,15 +3,9 @@ use mir.Syntax.{w64}
 use Rattle.console.proofs.Answers.{same-answer}
 use borrow.Author.Needs.{needs}
 use lib.ListN.{length}
-use native.Mathlib.Omega.{arith}
 use mathlib.Core.Path.{_≡_}
-use Prim.Native.Nat.{_≤_, _-_}
 use Rattle.console.proofs.transfer.read_some.Statement.{statement}
 use Rattle.console.proofs.transfer.read_some.Tie as tie
-use Rattle.console.proofs.transfer.read_some.Reads as reads
-use Rattle.console.proofs.transfer.read_some.Lts as lts
-use Rattle.libc.proofs.read.Reads as read-reads
-use Rattle.os.proofs.errno.Reads as errno-reads
 
 abbrev Inv-loop : tie.InvT-loop
 Inv-loop fd buffer₀ turns₀ buffer turns = length buffer ≡ length buffer₀

@@ -1,14 +1,8 @@
 use borrow.Author.Needs.{needs}
 use lib.ListN.{length}
-use native.Mathlib.Omega.{arith}
-use mathlib.Core.Path.{_≡_}
 use Prim.Native.Nat.{_≤_, _-_}
 use Rattle.console.proofs.transfer.write_all.Statement.{statement}
 use Rattle.console.proofs.transfer.write_all.Tie as tie
-use Rattle.console.proofs.transfer.write_all.Reads as reads
-use Rattle.console.proofs.transfer.write_all.Lts as lts
-use Rattle.console.proofs.transfer.write_some.Reads as write-some-reads
-use Rattle.io.proofs.count.Reads as count-reads
 
 abbrev Inv-loop : tie.InvT-loop
 Inv-loop fd buffer done₀ done = done ≤ length buffer

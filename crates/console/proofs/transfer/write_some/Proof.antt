@@ -1,14 +1,6 @@
 use borrow.Author.Needs.{needs}
-use lib.ListN.{length}
-use native.Mathlib.Omega.{arith}
-use mathlib.Core.Path.{_≡_}
-use Prim.Native.Nat.{_≤_, _-_}
 use Rattle.console.proofs.transfer.write_some.Statement.{statement}
 use Rattle.console.proofs.transfer.write_some.Tie as tie
-use Rattle.console.proofs.transfer.write_some.Reads as reads
-use Rattle.console.proofs.transfer.write_some.Lts as lts
-use Rattle.libc.proofs.write.Reads as write-reads
-use Rattle.os.proofs.errno.Reads as errno-reads
 
 abbrev Inv-loop : tie.InvT-loop
 Inv-loop fd buffer turns₀ turns = Unit {0}

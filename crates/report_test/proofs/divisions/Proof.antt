@@ -1,0 +1,50 @@
+use borrow.Author.Needs.{needs}
+use lib.ListN.{length}
+use Prim.Native.Nat.{_≤_, _-_, _+_}
+use Rattle.report_test.proofs.divisions.Statement.{statement}
+use Rattle.report_test.proofs.divisions.Tie as tie
+
+abbrev Inv-loop : tie.InvT-loop
+Inv-loop log n₀ t3 n = n ≤ length log + 1
+
+abbrev μ-loop : tie.MeasureT-loop
+μ-loop log n₀ t3 n = length log + 1 - n
+
+loop-holds : tie.Need-loop-holds Inv-loop μ-loop
+loop-holds c = search needs
+
+slice-aggregate-heading : tie.Need-slice-aggregate-heading Inv-loop μ-loop
+slice-aggregate-heading c = search needs
+
+heading-requires : tie.Need-heading-requires Inv-loop μ-loop
+heading-requires c κs = search needs
+
+divided-requires : tie.Need-divided-requires Inv-loop μ-loop
+divided-requires c κs = search needs
+
+add-n : tie.Need-add-n Inv-loop μ-loop
+add-n c = search needs
+
+loop-less : tie.Need-loop-less Inv-loop μ-loop
+loop-less c = search needs
+
+loop-again : tie.Need-loop-again Inv-loop μ-loop
+loop-again c = search needs
+
+returns : tie.Need-returns Inv-loop μ-loop
+returns c = search needs
+
+pub divisions-spec : {M : Type 1} → statement M
+divisions-spec =
+    tie.close
+    (tie.spec
+    Inv-loop
+    μ-loop
+    loop-holds
+    slice-aggregate-heading
+    heading-requires
+    divided-requires
+    add-n
+    loop-less
+    loop-again
+    returns)

@@ -1,0 +1,143 @@
+// Runs `report` on the log on its standard input and prints what comes out: for each prefix, then for all of it in two parts, divided at
+// each place, then with room for one line at a time.
+ghost use Prim.Native.Nat.{_≤_};
+ghost use lib.ListN.{length};
+use report::Part;
+use report::Progress;
+use report::Why;
+
+fn print(text: &[u8]) {
+    io::write_all(libc::STDOUT_FILENO, text);
+}
+
+fn heading(n: usize, after: &[u8]) {
+    print(b"== ");
+    io::print_decimal(libc::STDOUT_FILENO, n as u64);
+    print(after);
+}
+
+fn close(after: Progress, why: Why) {
+    let mut text = io::buffer();
+    let n = report::closing(after, why, &mut text);
+    print(&text[..n]);
+}
+
+// Prints the lines of a part.
+fn lines(part: &[u8], before: Progress) -> Part
+    ensures { λ p. ⌜ p .read ≤ length (now (part .entry)) ⌝ }
+{
+    let mut text = io::buffer();
+    let p = report::lines(part, before, &mut text);
+    let written = p.written;
+    print(&text[..written]);
+    p
+}
+
+// The same with room for one line of the longest kind.
+fn line(part: &[u8], before: Progress) -> Part
+    ensures { λ p. ⌜ p .read ≤ length (now (part .entry)) ⌝ }
+{
+    let mut text = [0u8; 72];
+    let p = report::lines(part, before, &mut text);
+    let written = p.written;
+    print(&text[..written]);
+    p
+}
+
+// The text of a log that is handed over whole.
+fn whole(log: &[u8]) {
+    let opening = report::opening(log);
+    let start = opening.progress;
+    if log.len() == 0 {
+        close(start, Why::Refused(opening.number));
+        return;
+    }
+    let part = lines(&log[1..], start);
+    let end = part.progress;
+    let why = part.why;
+    close(end, why);
+}
+
+// The text of a log that is handed over in two parts, what the first left unread with the second.
+fn divided(log: &[u8], n: usize) {
+    if n == 0 {
+        return;
+    }
+    if log.len() < n {
+        return;
+    }
+    let opening = report::opening(&log[..n]);
+    let start = opening.progress;
+    let first = lines(&log[1..n], start);
+    let middle = first.progress;
+    let read = first.read;
+    if n - 1 < read {
+        return;
+    }
+    let at = 1 + read;
+    let second = lines(&log[at..], middle);
+    let end = second.progress;
+    let why = second.why;
+    close(end, why);
+}
+
+fn prefixes(log: &[u8]) {
+    let mut n: usize = 0;
+    while n <= log.len() {
+        heading(n, b"\n");
+        whole(&log[..n]);
+        n += 1;
+    }
+}
+
+fn divisions(log: &[u8]) {
+    let mut n: usize = 1;
+    while n <= log.len() {
+        heading(n, b" and on\n");
+        divided(log, n);
+        n += 1;
+    }
+}
+
+fn is_full(why: Why) -> bool {
+    match why {
+        Why::Full => true,
+        Why::End => false,
+        Why::Cut => false,
+        Why::Refused(_) => false,
+        Why::Spent => false,
+    }
+}
+
+// Each call is cut off by its buffer or by the end.
+fn line_by_line(log: &[u8]) {
+    print(b"== line by line\n");
+    let opening = report::opening(log);
+    let mut progress = opening.progress;
+    let mut at: usize = 1;
+    while at <= log.len() {
+        let part = line(&log[at..], progress);
+        progress = part.progress;
+        let why = part.why;
+        if !is_full(why) {
+            close(progress, why);
+            return;
+        }
+        let read = part.read;
+        if read == 0 {
+            return;
+        }
+        if log.len() - at < read {
+            return;
+        }
+        at += read;
+    }
+}
+
+fn main() {
+    let mut log = io::buffer();
+    let n = io::read_full(libc::STDIN_FILENO, &mut log);
+    prefixes(&log[..n]);
+    divisions(&log[..n]);
+    line_by_line(&log[..n]);
+}

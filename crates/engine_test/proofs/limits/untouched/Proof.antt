@@ -1,0 +1,34 @@
+use Prim.Native.Nat.{_-_}
+use lib.ListN.{length}
+use borrow.Author.Needs.{needs}
+use Rattle.engine_test.proofs.limits.untouched.Statement.{statement}
+use Rattle.engine_test.proofs.limits.untouched.Tie as tie
+
+abbrev Inv-loop : tie.InvT-loop
+Inv-loop s same₀ i₀ same i = Unit {0}
+
+abbrev μ-loop : tie.MeasureT-loop
+μ-loop s same₀ i₀ same i = length s - i
+
+loop-holds : tie.Need-loop-holds Inv-loop μ-loop
+loop-holds c = search needs
+
+shared-slice-read-same : tie.Need-shared-slice-read-same Inv-loop μ-loop
+shared-slice-read-same c = search needs
+
+add-i : tie.Need-add-i Inv-loop μ-loop
+add-i c = search needs
+
+loop-less : tie.Need-loop-less Inv-loop μ-loop
+loop-less c = search needs
+
+loop-again : tie.Need-loop-again Inv-loop μ-loop
+loop-again c = search needs
+
+returns : tie.Need-returns Inv-loop μ-loop
+returns c = search needs
+
+pub untouched-spec : {M : Type 1} → statement M
+untouched-spec =
+    tie.close
+    (tie.spec Inv-loop μ-loop loop-holds shared-slice-read-same add-i loop-less loop-again returns)

@@ -1,0 +1,123 @@
+// Whether two records are the same, uncounted places of their stores included.
+use rules::battery::Live;
+use rules::battery::Record;
+use rules::battery::Tally;
+use rules::stores::LongTerm;
+use rules::stores::ShortTerm;
+use rules::tracking::Previous;
+use rules::tracking::ProtectionState;
+use rules::tracking::Span;
+use rules::tracking::Watch;
+
+fn same_span(a: Span, b: Span) -> bool {
+    match a {
+        Span::Idle => match b {
+            Span::Idle => true,
+            Span::Beyond(_) => false,
+            Span::Within(_) => false,
+        },
+        Span::Beyond(x) => match b {
+            Span::Idle => false,
+            Span::Beyond(y) => x.0 == y.0,
+            Span::Within(_) => false,
+        },
+        Span::Within(x) => match b {
+            Span::Idle => false,
+            Span::Beyond(_) => false,
+            Span::Within(y) => x.0 == y.0,
+        },
+    }
+}
+
+fn same_protection(a: ProtectionState, b: ProtectionState) -> bool {
+    let x = a.span;
+    let y = b.span;
+    same_span(x, y) & (a.tripped == b.tripped)
+}
+
+fn same_protections(a: [ProtectionState; 8], b: [ProtectionState; 8]) -> bool {
+    let mut same = true;
+    let mut i: usize = 0;
+    while i < 8 {
+        same = same & same_protection(a[i], b[i]);
+        i += 1;
+    }
+    same
+}
+
+fn same_previous(a: Previous, b: Previous) -> bool {
+    match a {
+        Previous::Nothing => match b {
+            Previous::Nothing => true,
+            Previous::Frame(_, _) => false,
+        },
+        Previous::Frame(t, i) => match b {
+            Previous::Nothing => false,
+            Previous::Frame(u, j) => (t.0 == u.0) & (i.0 == j.0),
+        },
+    }
+}
+
+fn same_watch(a: Watch, b: Watch) -> bool {
+    let p = a.protections;
+    let q = b.protections;
+    let x = a.previous;
+    let y = b.previous;
+    (a.mask == b.mask) & (a.failed == b.failed) & same_previous(x, y) & same_protections(p, q)
+}
+
+fn same_tally(a: Tally, b: Tally) -> bool {
+    (a.commands == b.commands) & (a.charged.0 == b.charged.0) & (a.discharged.0 == b.discharged.0)
+}
+
+// State, command, override and test by their numbers.
+fn same_live(a: Live, b: Live) -> bool {
+    (a.battery == b.battery)
+        & (a.last.0 == b.last.0)
+        & (views::state(a) == views::state(b))
+        & (views::command(a) == views::command(b))
+        & (views::overriding(a) == views::overriding(b))
+        & (views::test(a) == views::test(b))
+        & same_watch(a.watch, b.watch)
+        & same_tally(a.tally, b.tally)
+}
+
+fn same_long(a: LongTerm, b: LongTerm) -> bool {
+    let t = a.times;
+    let u = b.times;
+    let p = a.protections;
+    let q = b.protections;
+    let v = a.values;
+    let w = b.values;
+    let mut same = a.count == b.count;
+    let mut i: usize = 0;
+    while i < 64 {
+        same = same & (t[i].0 == u[i].0) & (p[i] == q[i]) & (v[i] == w[i]);
+        i += 1;
+    }
+    same
+}
+
+fn same_short(a: ShortTerm, b: ShortTerm) -> bool {
+    let t = a.times;
+    let u = b.times;
+    let p = a.protections;
+    let q = b.protections;
+    let v = a.values;
+    let w = b.values;
+    let x = a.releases;
+    let y = b.releases;
+    let mut same = a.count == b.count;
+    let mut i: usize = 0;
+    while i < 16 {
+        same = same & (t[i].0 == u[i].0) & (p[i] == q[i]) & (v[i] == w[i]) & (x[i] == y[i]);
+        i += 1;
+    }
+    same
+}
+
+pub fn same(a: Record, b: Record) -> bool {
+    let s = a.stores;
+    let t = b.stores;
+    same_live(a.live, b.live) & same_long(s.faults, t.faults) & same_short(s.recent, t.recent)
+}

@@ -1,0 +1,153 @@
+// Records that differ from a sound one in one place. No list of calls leaves most of them.
+use rules::battery::Control;
+use rules::battery::Live;
+use rules::battery::Record;
+use rules::battery::Tally;
+use rules::states::State;
+use rules::stores::LongTerm;
+use rules::stores::ShortTerm;
+use rules::stores::Stores;
+use rules::tracking::Previous;
+use rules::tracking::ProtectionState;
+use rules::tracking::Span;
+use rules::tracking::Watch;
+use rules::units::Charge;
+use rules::units::Milliamperes;
+use rules::units::Milliseconds;
+
+// Type 1, Operational, its last time 1,000 ms, all else as in a fresh record.
+pub fn base() -> Record {
+    let f = engine::fresh(1);
+    let r = f.start;
+    let l = r.live;
+    let c = l.control;
+    let control = Control {
+        state: State::Operational,
+        ..c
+    };
+    let live = Live {
+        last: Milliseconds(1000),
+        control,
+        ..l
+    };
+    Record { live, ..r }
+}
+
+pub fn battery(n: u8) -> Record {
+    let r = base();
+    let l = r.live;
+    let live = Live { battery: n, ..l };
+    Record { live, ..r }
+}
+
+pub fn last(t: u32) -> Record {
+    let r = base();
+    let l = r.live;
+    let live = Live {
+        last: Milliseconds(t),
+        ..l
+    };
+    Record { live, ..r }
+}
+
+fn with_tally(tally: Tally) -> Record {
+    let r = base();
+    let l = r.live;
+    let live = Live { tally, ..l };
+    Record { live, ..r }
+}
+
+pub fn accounts(charged: u64, discharged: u64) -> Record {
+    with_tally(Tally {
+        commands: 0,
+        charged: Charge(charged),
+        discharged: Charge(discharged),
+    })
+}
+
+pub fn commands(n: u32) -> Record {
+    with_tally(Tally {
+        commands: n,
+        charged: Charge(0),
+        discharged: Charge(0),
+    })
+}
+
+fn base_watch() -> Watch {
+    let r = base();
+    let l = r.live;
+    l.watch
+}
+
+fn with_watch(watch: Watch) -> Record {
+    let r = base();
+    let l = r.live;
+    let live = Live { watch, ..l };
+    Record { live, ..r }
+}
+
+pub fn mask(mask: u16) -> Record {
+    let w = base_watch();
+    with_watch(Watch { mask, ..w })
+}
+
+pub fn previous(t: u32, i: i32) -> Record {
+    let w = base_watch();
+    let previous = Previous::Frame(Milliseconds(t), Milliamperes(i));
+    with_watch(Watch { previous, ..w })
+}
+
+// A number that has no protection leaves the record as it is.
+pub fn span(number: usize, span: Span) -> Record {
+    let w = base_watch();
+    let mut protections = w.protections;
+    if number < 8 {
+        protections[number] = ProtectionState {
+            span,
+            tripped: false,
+        };
+    }
+    with_watch(Watch { protections, ..w })
+}
+
+fn with_stores(stores: Stores) -> Record {
+    let r = base();
+    Record { stores, ..r }
+}
+
+// Long-term entries of protection 0 at 0 ms, save one place that holds another protection.
+pub fn long(count: usize, place: usize, protection: u8) -> Record {
+    let r = base();
+    let s = r.stores;
+    let f = s.faults;
+    let mut protections = f.protections;
+    if place < 64 {
+        protections[place] = protection;
+    }
+    let faults = LongTerm {
+        protections,
+        count,
+        ..f
+    };
+    with_stores(Stores { faults, ..s })
+}
+
+// The same of the short-term store; the entry in that place is a release.
+pub fn short(count: usize, place: usize, protection: u8) -> Record {
+    let r = base();
+    let s = r.stores;
+    let f = s.recent;
+    let mut protections = f.protections;
+    let mut releases = f.releases;
+    if place < 16 {
+        protections[place] = protection;
+        releases[place] = true;
+    }
+    let recent = ShortTerm {
+        protections,
+        releases,
+        count,
+        ..f
+    };
+    with_stores(Stores { recent, ..s })
+}

@@ -1,0 +1,187 @@
+#!/usr/bin/env python3
+"""engine_test.py VECTORS MODEL: writes the logs of crates/engine_test that show one thing each, its `args`, and the text that it must
+print: the vectors' .view files, then what MODEL (peer's `model`, written from document 01 alone) holds after each log made here, then the
+records of document 01's list "Unsound", judged here by that list. Nothing of the engine's own is read."""
+import pathlib
+import struct
+import subprocess
+import sys
+
+HERE = pathlib.Path(__file__).resolve().parent.parent / "crates" / "engine_test"
+
+
+# ---- logs, by the layout of "Seven kinds of call"
+
+def measurement(t, cells=3300, current=0, temperature=250):
+    cells = [cells] * 8 if isinstance(cells, int) else cells
+    return struct.pack("<BI8Hi4h", 1, t, *cells, current, *[temperature] * 4)
+
+
+def power_on(t):
+    return struct.pack("<BI", 2, t)
+
+
+def power_loss(t):
+    return struct.pack("<BI", 3, t)
+
+
+def command(t, which):
+    return struct.pack("<BIB", 4, t, which)
+
+
+def request(t, state):
+    return struct.pack("<BIB", 5, t, state)
+
+
+def override(t, on):
+    return struct.pack("<BIB", 6, t, on)
+
+
+def clear(t):
+    return struct.pack("<BI", 7, t)
+
+
+def short_circuits(count):
+    """Trips of protection 5, each of another value, each released 1,000 ms after its first frame within."""
+    for k in range(count):
+        t = 2000 * k
+        yield measurement(t, current=-1_100_001 - k)
+        yield measurement(t + 500)
+        yield measurement(t + 1500)
+
+
+MAINTENANCE = [request(0, 2), request(0, 3)]
+LOW = [1699] + [3300] * 7  # one cell below 1,700: protection 1, and a spread above 500: protection 7
+
+LOGS = {
+    # 70 trips: the first 64 stay; a clear leaves none
+    "seventy": [power_on(0), *MAINTENANCE, *short_circuits(70)],
+    "seventy_cleared": [power_on(0), *MAINTENANCE, *short_circuits(70), clear(140_000)],
+    # 10 trips and 10 releases: the last 16 of the 20 entries stay
+    "twenty": [power_on(0), *short_circuits(10)],
+    # the hold of 500 ms begins anew after a power loss: 490 ms of it are no trip, 500 are
+    "power_loss_mid_hold": [power_on(0), measurement(0, 3651), measurement(400, 3651), power_loss(450), power_on(460),
+                            measurement(470, 3651), measurement(960, 3651)],
+    "power_loss_whole_hold": [power_on(0), measurement(0, 3651), measurement(400, 3651), power_loss(450), power_on(460),
+                              measurement(470, 3651), measurement(960, 3651), measurement(970, 3651)],
+    # mistake: counting values between beyond and within as within. 3,501 for 3,000 ms releases nothing; 3,500 for 2,000 ms does
+    "between": [power_on(0), request(0, 2), measurement(0, 3651), measurement(500, 3651), measurement(600, 3501), measurement(3600, 3501)],
+    "between_then_within": [power_on(0), request(0, 2), measurement(0, 3651), measurement(500, 3651), measurement(600, 3501),
+                            measurement(3600, 3500), measurement(5600, 3500)],
+    # mistake: stretching a span over a power loss
+    "stretched": [power_on(0), measurement(0, 3651), power_loss(100), power_on(200), measurement(600, 3651)],
+    # mistake: letting Force closed pass a tripped protection with override off; with it on, protection 1 is lifted
+    "force_closed": [power_on(0), *MAINTENANCE, command(0, 2), measurement(0, LOW), measurement(2000, LOW)],
+    "force_closed_lifted": [power_on(0), *MAINTENANCE, command(0, 2), override(0, 1), measurement(0, LOW), measurement(2000, LOW)],
+    # mistake: skipping trip entries under override
+    "override_entries": [power_on(0), request(0, 2), override(0, 1), measurement(0, LOW), measurement(10_000, LOW)],
+    # mistake: keeping the newest 64
+    "newest": [power_on(0), *short_circuits(65)],
+}
+
+
+# ---- records of the list "Unsound": a sound record of type 1, Operational, last time 1,000, with one thing changed
+
+BASE = dict(battery=1, last=1000, mask=0, charged=0, discharged=0, previous=None, spans=[None] * 8, long=[], short=[])
+
+
+def unsound(r):
+    entries = r["long"] + r["short"]
+    return (r["battery"] not in (1, 2, 3) or r["last"] > 345_600_000 or len(r["long"]) > 64 or len(r["short"]) > 16
+            or any(protection > 7 for protection, _ in entries) or r["mask"] >= 1 << 13
+            or max(r["charged"], r["discharged"]) > 2_000_000 * r["last"]
+            or any(start is not None and start > r["last"] for start in r["spans"])
+            or r["previous"] is not None and (r["previous"][0] > r["last"] or abs(r["previous"][1]) > 2_000_000))
+
+
+def exported(entries):
+    return sum(10 if trip else 6 for _, trip in entries)
+
+
+def line(name, **changes):
+    r = dict(BASE, **changes)
+    if unsound(r):
+        return f"{name}: unsound, power loss 5 kept, early power on 5 kept, long refused 5 kept, short refused 5 kept"
+    return (f"{name}: sound, power loss 0, early power on 6 kept, "
+            f"long {exported(r['long'])} kept, short {exported(r['short'])} kept")
+
+
+def long(count, place, protection):
+    return [(protection if i == place else 0, True) for i in range(count)]
+
+
+def short(count, place, protection):
+    return [(protection if i == place else 0, i != place) for i in range(count)]
+
+
+def limit_lines():
+    for n in (0, 1, 3, 4):
+        yield line(f"type {n}", battery=n)
+    for t in (345_600_000, 345_600_001):
+        yield line(f"last {t}", last=t)
+    for mask in (8191, 8192):
+        yield line(f"mask {mask}", mask=mask)
+    for account in ("charged", "discharged"):
+        for q in (2_000_000_000, 2_000_000_001):
+            yield line(f"{account} {q}", **{account: q})
+    for t in (1000, 1001):
+        yield line(f"measured {t}", previous=(t, 0))
+    for i in (2_000_000, 2_000_001, -2_000_000, -2_000_001):
+        yield line(f"current {i}", previous=(1000, i))
+    for number in range(8):
+        for side in ("beyond", "within"):
+            for t in (1000, 1001):
+                spans = [t if n == number else None for n in range(8)]
+                yield line(f"{side} since {t}, {number}", spans=spans)
+    for name, most, make in (("long", 64, long), ("short", 16, short)):
+        yield line(f"{name} {most}", **{name: make(most, 0, 0)})
+        yield line(f"{name} {most + 1}", **{name: make(most + 1, 0, 0)})
+        for count, protection, place in ((3, 7, 2), (3, 8, 0), (3, 8, 2), (3, 8, 3), (most, 8, most - 1)):
+            yield line(f"{name} {count} with {protection} in place {place}", **{name: make(count, place, protection)})
+    yield "buffers, long 640 kept, long refused 11 kept, short 156 kept, short refused 11 kept"
+
+
+def view(state, command_number):
+    return f"""type 1
+state {state}
+command {command_number}
+override 0
+last 1000
+commands 4294967295
+test 0
+failed 0000
+failed_count 0
+tripped 00
+contactor 0
+charged 0
+discharged 0
+long -
+short -"""
+
+
+def ceiling_lines():
+    yield "ceiling"
+    yield "open 0"
+    yield view(2, 1)
+    yield "automated 10 kept, override 0, maintenance 0, force closed 10 kept, power loss 0"
+    yield view(0, 0)
+
+
+def main():
+    vectors, model = pathlib.Path(sys.argv[1]), sys.argv[2]
+    names, text = [], []
+    for log in sorted(vectors.glob("*.log")):
+        names.append(log.name)
+        text.append(f"{log.name}\n{log.with_suffix('.view').read_text()}")
+    for name, events in LOGS.items():
+        log = bytes([1]) + b"".join(events)
+        (HERE / "data" / f"{name}.log").write_bytes(log)
+        names.append(f"{name}.log")
+        shown = subprocess.run([model, "--view"], input=log, capture_output=True, check=True).stdout.decode()
+        text.append(f"{name}.log\n{shown}")
+    text += [s + "\n" for s in [*limit_lines(), *ceiling_lines()]]
+    (HERE / "args").write_text("".join(n + "\n" for n in names))
+    (HERE / "stdout").write_text("".join(text))
+
+
+main()

@@ -1,0 +1,64 @@
+use borrow.Author.Needs.{needs}
+use Rattle.engine_bench.proofs.call.Statement.{statement}
+use Rattle.engine_bench.proofs.call.Tie as tie
+
+abbrev Inv-loop : tie.InvT-loop
+Inv-loop count first slots live₀ stores₀ refused₀ i₀ left₀ live stores refused i left = Unit {0}
+
+abbrev μ-loop : tie.MeasureT-loop
+μ-loop count first slots live₀ stores₀ refused₀ i₀ left₀ live stores refused i left = left
+
+loop-holds : tie.Need-loop-holds Inv-loop μ-loop
+loop-holds c = search needs
+
+returns : tie.Need-returns Inv-loop μ-loop
+returns c = search needs
+
+mul-slot : tie.Need-mul-slot Inv-loop μ-loop
+mul-slot c = search needs
+
+array-copy-out-slot : tie.Need-array-copy-out-slot Inv-loop μ-loop
+array-copy-out-slot c = search needs
+
+judge-requires : tie.Need-judge-requires Inv-loop μ-loop
+judge-requires c κs = search needs
+
+write-stores-requires : tie.Need-write-stores-requires Inv-loop μ-loop
+write-stores-requires c κs = search needs
+
+wrapping-add-usize-requires : tie.Need-wrapping-add-usize-requires Inv-loop μ-loop
+wrapping-add-usize-requires c κs = search needs
+
+add-i : tie.Need-add-i Inv-loop μ-loop
+add-i c = search needs
+
+sub-left : tie.Need-sub-left Inv-loop μ-loop
+sub-left c = search needs
+
+loop-less : tie.Need-loop-less Inv-loop μ-loop
+loop-less c = search needs
+
+loop-again : tie.Need-loop-again Inv-loop μ-loop
+loop-again c = search needs
+
+returns-2 : tie.Need-returns-2 Inv-loop μ-loop
+returns-2 c = search needs
+
+pub call-spec : {M : Type 1} → statement M
+call-spec =
+    tie.close
+    (tie.spec
+    Inv-loop
+    μ-loop
+    loop-holds
+    returns
+    mul-slot
+    array-copy-out-slot
+    judge-requires
+    write-stores-requires
+    wrapping-add-usize-requires
+    add-i
+    sub-left
+    loop-less
+    loop-again
+    returns-2)

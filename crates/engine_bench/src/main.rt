@@ -1,0 +1,191 @@
+// Times the engine: reads the log that its argument names and applies it again and again, each time from a fresh record, with the stores
+// kept apart and written only where a call touches them. It prints how many events there are and how many calls are made, and for each of
+// three repetitions the processor time in nanoseconds, in all and per call, and the refusals: of calls on events that were read before, and
+// of reading and calls.
+use log::reader;
+use rules::answers::ReadEvent;
+use rules::battery::Record;
+use rules::calls::Event;
+use rules::units::Milliseconds;
+
+// The first events of a log are kept, as many as there are slots.
+const SLOTS: usize = 4096;
+
+const CALLS: usize = 4_000_000;
+
+struct Slot {
+    event: Event,
+}
+
+fn events(input: &[u8]) -> [Slot; SLOTS] {
+    let mut slots = [Slot {
+        event: Event::PowerOn(Milliseconds(0)),
+    }; SLOTS];
+    let mut at: usize = 1;
+    let mut i: usize = 0;
+    while i < SLOTS {
+        let ReadEvent::Found(e, next) = reader::event_at(input, at) else {
+            return slots;
+        };
+        slots[i] = Slot { event: e };
+        at = next;
+        i += 1;
+    }
+    slots
+}
+
+fn count(input: &[u8]) -> usize {
+    let mut at: usize = 1;
+    let mut i: usize = 0;
+    while i < SLOTS {
+        let ReadEvent::Found(_, next) = reader::event_at(input, at) else {
+            return i;
+        };
+        at = next;
+        i += 1;
+    }
+    SLOTS
+}
+
+// How many calls were refused. After the last event the first one follows, on the first record.
+fn call(slots: [Slot; SLOTS], count: usize, first: Record) -> usize {
+    let mut live = first.live;
+    let mut stores = first.stores;
+    let mut refused: usize = 0;
+    let mut i: usize = 0;
+    let mut left = CALLS;
+    while 0 < left {
+        if count <= i {
+            i = 0;
+            live = first.live;
+            stores = first.stores;
+        }
+        if SLOTS <= i {
+            return refused;
+        }
+        let slot = slots[i];
+        let e = slot.event;
+        let j = engine::judge(live, stores, e);
+        let after = j.live;
+        if j.touched {
+            stores = engine::write_stores(live, after, stores, e);
+        }
+        live = after;
+        if j.number != 0 {
+            refused = std::num::wrapping_add_usize(refused, 1);
+        }
+        i += 1;
+        left -= 1;
+    }
+    refused
+}
+
+// The same, on events as they are read. Bytes that can't be read end the log as its end does.
+fn read_and_call(input: &[u8], first: Record) -> usize {
+    let mut live = first.live;
+    let mut stores = first.stores;
+    let mut refused: usize = 0;
+    let mut at: usize = 1;
+    let mut left = CALLS;
+    while 0 < left {
+        left -= 1;
+        let ReadEvent::Found(e, next) = reader::event_at(input, at) else {
+            at = 1;
+            live = first.live;
+            stores = first.stores;
+            continue;
+        };
+        let j = engine::judge(live, stores, e);
+        let after = j.live;
+        if j.touched {
+            stores = engine::write_stores(live, after, stores, e);
+        }
+        live = after;
+        if j.number != 0 {
+            refused = std::num::wrapping_add_usize(refused, 1);
+        }
+        at = next;
+    }
+    refused
+}
+
+fn text(s: &[u8]) {
+    io::write_all(1, s);
+}
+
+fn line(name: &[u8], n: u64) {
+    text(name);
+    io::print_decimal(1, n);
+    text(b"\n");
+}
+
+fn natural(z: i64) -> u64 {
+    if z < 0 {
+        return 0;
+    }
+    z as u64
+}
+
+// Microseconds of processor time between two answers of the clock; the clock answers -1 where it fails.
+fn between(start: i64, end: i64) -> u64 {
+    let s = natural(start);
+    let e = natural(end);
+    if e < s {
+        return 0;
+    }
+    e - s
+}
+
+fn report(name: &[u8], start: i64, end: i64, refused: usize) {
+    let us = between(start, end);
+    if us < 1_000_000_000_000 {
+        let ns = us * 1000;
+        text(name);
+        io::print_decimal(1, ns);
+        text(b" ns, per call ");
+        io::print_decimal(1, ns / (CALLS as u64));
+        line(b", refused ", refused as u64);
+    }
+}
+
+fn repeat(input: &[u8], slots: [Slot; SLOTS], count: usize, first: Record) {
+    let start = libc::clock();
+    let refused = call(slots, count, first);
+    let middle = libc::clock();
+    let again = read_and_call(input, first);
+    let end = libc::clock();
+    report(b"calls ", start, middle, refused);
+    report(b"reading and calls ", middle, end, again);
+}
+
+fn run(input: &[u8]) {
+    if 0 < input.len() {
+        let f = engine::fresh(input[0]);
+        let first = f.start;
+        let slots = events(input);
+        let n = count(input);
+        line(b"events ", n as u64);
+        line(b"calls ", CALLS as u64);
+        repeat(input, slots, n, first);
+        repeat(input, slots, n, first);
+        repeat(input, slots, n, first);
+    }
+}
+
+fn main() {
+    let mut path = io::buffer();
+    let length = os::arg(1, &mut path);
+    if length == 0 {
+        text(b"usage: engine_bench LOG\n");
+        return;
+    }
+    let fd = os::open_read(&path[..length]);
+    if fd < 0 {
+        os::fail(&path[..length]);
+        return;
+    }
+    let mut input = [0u8; 147456];
+    let n = io::read_full(fd, &mut input);
+    libc::close(fd);
+    run(&input[..n]);
+}

@@ -1,5 +1,5 @@
 #!/usr/bin/env python3
-"""engine_test.py VECTORS MODEL: writes the logs of crates/engine_test that show one thing each, its `args`, and the text that it must
+"""engine_test.py VECTORS MODEL: writes the logs of crates/engine_test that show one thing each, its `args`, its table of records on `stdin`, and the text that it must
 print: the vectors' .view files, then what MODEL (peer's `model`, written from document 01 alone) holds after each log made here, then the
 records of document 01's list "Unsound", judged here by that list. Nothing of the engine's own is read."""
 import pathlib
@@ -98,8 +98,7 @@ def exported(entries):
     return sum(10 if trip else 6 for _, trip in entries)
 
 
-def line(name, **changes):
-    r = dict(BASE, **changes)
+def line(name, r):
     if unsound(r):
         return f"{name}: unsound, power loss 5 kept, early power on 5 kept, long refused 5 kept, short refused 5 kept"
     return (f"{name}: sound, power loss 0, early power on 6 kept, "
@@ -114,30 +113,42 @@ def short(count, place, protection):
     return [(protection if i == place else 0, i != place) for i in range(count)]
 
 
-def limit_lines():
+def cases():
+    """Each a name, what engine_test is told to change (which, place, small number, number), and what that is."""
     for n in (0, 1, 3, 4):
-        yield line(f"type {n}", battery=n)
+        yield f"type {n}", (0, 0, n, 0), dict(battery=n)
     for t in (345_600_000, 345_600_001):
-        yield line(f"last {t}", last=t)
-    for mask in (8191, 8192):
-        yield line(f"mask {mask}", mask=mask)
-    for account in ("charged", "discharged"):
+        yield f"last {t}", (1, 0, 0, t), dict(last=t)
+    for which, account in ((2, "charged"), (3, "discharged")):
         for q in (2_000_000_000, 2_000_000_001):
-            yield line(f"{account} {q}", **{account: q})
+            yield f"{account} {q}", (which, 0, 0, q), {account: q}
+    for mask in (8191, 8192):
+        yield f"mask {mask}", (4, 0, 0, mask), dict(mask=mask)
     for t in (1000, 1001):
-        yield line(f"measured {t}", previous=(t, 0))
+        yield f"measured {t}", (5, 0, 0, t), dict(previous=(t, 0))
     for i in (2_000_000, 2_000_001, -2_000_000, -2_000_001):
-        yield line(f"current {i}", previous=(1000, i))
+        yield f"current {i}", (6, 0, 0, i % 2 ** 32), dict(previous=(1000, i))
     for number in range(8):
-        for side in ("beyond", "within"):
+        for which, side in ((7, "beyond"), (8, "within")):
             for t in (1000, 1001):
                 spans = [t if n == number else None for n in range(8)]
-                yield line(f"{side} since {t}, {number}", spans=spans)
-    for name, most, make in (("long", 64, long), ("short", 16, short)):
-        yield line(f"{name} {most}", **{name: make(most, 0, 0)})
-        yield line(f"{name} {most + 1}", **{name: make(most + 1, 0, 0)})
+                yield f"{side} since {t}, {number}", (which, number, 0, t), dict(spans=spans)
+    for which, name, most, make in ((9, "long", 64, long), (10, "short", 16, short)):
+        yield f"{name} {most}", (which, 0, 0, most), {name: make(most, 0, 0)}
+        yield f"{name} {most + 1}", (which, 0, 0, most + 1), {name: make(most + 1, 0, 0)}
         for count, protection, place in ((3, 7, 2), (3, 8, 0), (3, 8, 2), (3, 8, 3), (most, 8, most - 1)):
-            yield line(f"{name} {count} with {protection} in place {place}", **{name: make(count, place, protection)})
+            told = (which, place, protection, count)
+            yield f"{name} {count} with {protection} in place {place}", told, {name: make(count, place, protection)}
+
+
+def table():
+    for name, (which, place, small, n), _ in cases():
+        yield struct.pack("<BBBBI", which, place, small, len(name), n) + name.encode()
+
+
+def limit_lines():
+    for name, _, changes in cases():
+        yield line(name, dict(BASE, **changes))
     yield "buffers, long 640 kept, long refused 11 kept, short 156 kept, short refused 11 kept"
 
 
@@ -180,6 +191,7 @@ def main():
         shown = subprocess.run([model, "--view"], input=log, capture_output=True, check=True).stdout.decode()
         text.append(f"{name}.log\n{shown}")
     text += [s + "\n" for s in [*limit_lines(), *ceiling_lines()]]
+    (HERE / "stdin").write_bytes(b"".join(table()))
     (HERE / "args").write_text("".join(n + "\n" for n in names))
     (HERE / "stdout").write_text("".join(text))
 

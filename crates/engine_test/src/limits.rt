@@ -1,6 +1,7 @@
-// Document 01, "Unsound": a record for each condition of the list, and one just inside each limit. A line says whether the record is
+// Document 01, "Unsound": a record for each condition of the list, and one just inside each limit, by the table on standard input. A line says whether the record is
 // sound, what two calls answer (a power loss, which a sound record accepts, and a power on at 0 ms, which is early), whether a refused
 // call leaves the record as it was, and what both exports answer, with whether the buffer holds what it held after the bytes written.
+ghost use mathlib.Core.Path.{_≡_};
 use crate::compare;
 use crate::edit;
 use crate::print;
@@ -9,6 +10,13 @@ use rules::battery::Record;
 use rules::calls::Event;
 use rules::tracking::Span;
 use rules::units::Milliseconds;
+use words::read;
+
+fn wide(x: u8) -> usize
+    ensures { λ r. ⌜ r ≡ x ⌝ }
+{
+    x as usize
+}
 
 // Of the byte that every buffer is filled with.
 fn untouched(s: &[u8]) -> bool {
@@ -88,86 +96,48 @@ fn judge(r: Record) {
     exports(r);
 }
 
-fn case(name: &[u8], r: Record) {
-    print::text(name);
-    judge(r);
-}
-
-fn live() {
-    case(b"type 0", edit::battery(0));
-    case(b"type 1", edit::battery(1));
-    case(b"type 3", edit::battery(3));
-    case(b"type 4", edit::battery(4));
-    case(b"last 345600000", edit::last(345_600_000));
-    case(b"last 345600001", edit::last(345_600_001));
-    case(b"mask 8191", edit::mask(8_191));
-    case(b"mask 8192", edit::mask(8_192));
-    case(b"charged 2000000000", edit::accounts(2_000_000_000, 0));
-    case(b"charged 2000000001", edit::accounts(2_000_000_001, 0));
-    case(b"discharged 2000000000", edit::accounts(0, 2_000_000_000));
-    case(b"discharged 2000000001", edit::accounts(0, 2_000_000_001));
-    case(b"measured 1000", edit::previous(1_000, 0));
-    case(b"measured 1001", edit::previous(1_001, 0));
-    case(b"current 2000000", edit::previous(1_000, 2_000_000));
-    case(b"current 2000001", edit::previous(1_000, 2_000_001));
-    case(b"current -2000000", edit::previous(1_000, -2_000_000));
-    case(b"current -2000001", edit::previous(1_000, -2_000_001));
-}
-
-fn numbered(name: &[u8], number: usize, r: Record) {
-    print::text(name);
-    print::number(number as u64);
-    judge(r);
-}
-
-fn spans_of(number: usize) {
-    let last = Milliseconds(1_000);
-    let later = Milliseconds(1_001);
-    numbered(
-        b"beyond since 1000, ",
-        number,
-        edit::span(number, Span::Beyond(last)),
-    );
-    numbered(
-        b"beyond since 1001, ",
-        number,
-        edit::span(number, Span::Beyond(later)),
-    );
-    numbered(
-        b"within since 1000, ",
-        number,
-        edit::span(number, Span::Within(last)),
-    );
-    numbered(
-        b"within since 1001, ",
-        number,
-        edit::span(number, Span::Within(later)),
-    );
-}
-
-fn spans() {
-    let mut number: usize = 0;
-    while number < 8 {
-        spans_of(number);
-        number += 1;
+// The sound record with one thing changed, by the eight bytes of a case: what is changed, a place, a small number, the length of the
+// case's name, and a number of four bytes.
+fn changed(head: &[u8]) -> Record {
+    let place = wide(read::byte_at(head, 1));
+    let small = read::byte_at(head, 2);
+    let n = read::u32_at(head, 4);
+    match read::byte_at(head, 0) {
+        0 => edit::battery(small),
+        1 => edit::last(n),
+        2 => edit::accounts(n as u64, 0),
+        3 => edit::accounts(0, n as u64),
+        4 => edit::mask((n % 65_536) as u16),
+        5 => edit::previous(n, 0),
+        6 => edit::previous(1_000, read::i32_at(head, 4)),
+        7 => edit::span(place, Span::Beyond(Milliseconds(n))),
+        8 => edit::span(place, Span::Within(Milliseconds(n))),
+        9 => edit::long(n as usize, place, small),
+        _ => edit::short(n as usize, place, small),
     }
 }
 
-fn stores() {
-    case(b"long 64", edit::long(64, 0, 0));
-    case(b"long 65", edit::long(65, 0, 0));
-    case(b"long 3 with 7 in place 2", edit::long(3, 2, 7));
-    case(b"long 3 with 8 in place 0", edit::long(3, 0, 8));
-    case(b"long 3 with 8 in place 2", edit::long(3, 2, 8));
-    case(b"long 3 with 8 in place 3", edit::long(3, 3, 8));
-    case(b"long 64 with 8 in place 63", edit::long(64, 63, 8));
-    case(b"short 16", edit::short(16, 0, 0));
-    case(b"short 17", edit::short(17, 0, 0));
-    case(b"short 3 with 7 in place 2", edit::short(3, 2, 7));
-    case(b"short 3 with 8 in place 0", edit::short(3, 0, 8));
-    case(b"short 3 with 8 in place 2", edit::short(3, 2, 8));
-    case(b"short 3 with 8 in place 3", edit::short(3, 3, 8));
-    case(b"short 16 with 8 in place 15", edit::short(16, 15, 8));
+fn case(head: &[u8], name: &[u8]) {
+    print::text(name);
+    judge(changed(head));
+}
+
+// The name stands after the eight bytes.
+fn cases(s: &[u8]) {
+    let mut at: usize = 0;
+    while at < s.len() {
+        if s.len() - at < 8 {
+            return;
+        }
+        let start = at + 8;
+        let size = wide(s[at + 3]);
+        if s.len() - start < size {
+            return;
+        }
+        let end = start + size;
+        case(&s[at..start], &s[start..end]);
+        at = end;
+    }
 }
 
 // A sound record's exports into buffers that are just long enough, and one byte shorter.
@@ -184,9 +154,7 @@ fn buffers() {
     print::text(b"\n");
 }
 
-pub fn run() {
-    live();
-    spans();
-    stores();
+pub fn run(table: &[u8]) {
+    cases(table);
     buffers();
 }

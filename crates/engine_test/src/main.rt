@@ -1,6 +1,6 @@
 // Runs calls through the engine and prints the records that they leave, with the exports of their stores.
 // Each argument names a log, whose record is printed as it is after the last readable event. Records that no log leaves follow: unsound
-// ones, each beside one just inside the same limit, and one whose command count is next to its ceiling.
+// ones and those just inside each limit, from the table on standard input, and one whose command count is next to its ceiling.
 mod ceiling;
 mod compare;
 mod edit;
@@ -62,6 +62,8 @@ fn read_logs() {
 
 fn main() {
     read_logs();
-    limits::run();
+    let mut table = io::large_buffer();
+    let n = io::read_full(0, &mut table);
+    limits::run(&table[..n]);
     ceiling::run();
 }

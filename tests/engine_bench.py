@@ -21,7 +21,7 @@ def quiet(count):
 
 
 def trips(count):
-    """A short circuit, then two frames of rest, the second of which releases it; now and then a high cell or a hot sensor that outlasts its hold."""
+    """A short circuit, then two frames of rest, the second of which releases it; now and then a high cell or a hot sensor."""
     for k in range(count):
         short = k % 3 == 0
         high = k % 40 in (10, 11, 12)

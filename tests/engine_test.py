@@ -1,7 +1,8 @@
 #!/usr/bin/env python3
-"""engine_test.py VECTORS MODEL: writes the logs of crates/engine_test that show one thing each, its `args`, its table of records on `stdin`, and the text that it must
-print: the vectors' .view files, then what MODEL (peer's `model`, written from document 01 alone) holds after each log made here, then the
-records of document 01's list "Unsound", judged here by that list. Nothing of the engine's own is read."""
+"""engine_test.py VECTORS MODEL: writes what crates/engine_test runs on and must print. It runs on the logs of VECTORS, on logs made here
+that show one thing each, and on a table of records for `stdin`. The text is the vectors' .view files, then what MODEL (peer's `model`,
+written from document 01 alone) holds after each log made here, then the records, judged here by document 01's list "Unsound". Nothing of
+the engine's own is read."""
 import pathlib
 import struct
 import subprocess

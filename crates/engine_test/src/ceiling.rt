@@ -1,4 +1,5 @@
-// The command count at its ceiling: one more contactor command is accepted and then none, in either state that allows them; all else goes on.
+// The command count at its ceiling: one more contactor command is accepted and then none, in either state that allows them; all else
+// goes on.
 use crate::edit;
 use crate::limits;
 use crate::print;

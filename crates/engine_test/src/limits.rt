@@ -1,6 +1,7 @@
-// Document 01, "Unsound": a record for each condition of the list, and one just inside each limit, by the table on standard input. A line says whether the record is
-// sound, what two calls answer (a power loss, which a sound record accepts, and a power on at 0 ms, which is early), whether a refused
-// call leaves the record as it was, and what both exports answer, with whether the buffer holds what it held after the bytes written.
+// Document 01, "Unsound": a record for each condition of the list, and one just inside each limit, by the table on standard input. A line
+// says whether the record is sound, what two calls answer (a power loss, which a sound record accepts, and a power on at 0 ms, which is
+// early), whether a refused call leaves the record as it was, and what both exports answer, with whether the buffer holds what it held
+// after the bytes written.
 ghost use mathlib.Core.Path.{_≡_};
 use crate::compare;
 use crate::edit;

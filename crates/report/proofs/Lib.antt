@@ -4,3 +4,5 @@ pub mod Answers
 pub mod Lining
 pub mod Going
 pub mod LastLine
+pub mod Whole
+pub mod Joined

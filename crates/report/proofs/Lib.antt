@@ -6,3 +6,4 @@ pub mod Going
 pub mod LastLine
 pub mod Whole
 pub mod Joined
+pub mod Exists

@@ -3,9 +3,8 @@ use mathlib.Core.Path.{_≡_, refl, sym, ap, _∙_}
 use mathlib.Core.Bool.{Bool, true, false}
 use mathlib.Core.List.{List, [], _∷_}
 use Prim.Native.Nat.{ℕ, _-_}
-use lib.IntN.{ℤ, pos, natAbs}
+use lib.IntN.{ℤ}
 use lib.ListN.{getD}
-use Rattle.rules.specs.declared.reading.Reading.{Reading}
 use Rattle.rules.specs.declared.states.State.{State}
 use Rattle.rules.specs.declared.states.State.the-variants.{Unpowered, Dormant, Operational, Maintenance}
 use Rattle.rules.specs.declared.states.TestResult.{TestResult}
@@ -26,7 +25,7 @@ use Rattle.rules.specs.declared.answers.ReadEntry.{ReadEntry}
 use Rattle.rules.specs.declared.answers.ReadEntry.the-variants.{Found as FoundEntry, End as NoEntry, Refused as RefusedEntry}
 use Rattle.rules.specs.declared.answers.Written.{Written}
 use Rattle.rules.specs.declared.answers.Written.the-variants.{Bytes, Refused}
-use Rattle.rules.specs.Quantities.{mV, mA, ms, dC}
+use Rattle.rules.specs.Quantities.{ms}
 use Rattle.rules.specs.Numbers.{stateNumber, requestNumber, commandNumber, overrideNumber, testNumber, contactorNumber, eventKind, eventValues, entryKind, entryValues, requestOf, commandOf, overrideOf, signed, unsigned, eventOf, ReadAnswer, found, end, ReadAnswer.refused, answerOfReadEvent, answerOfReadEntry, WriteAnswer, bytes, answerOfWrite}
 use Rattle.rules.specs.Numbers.{WriteAnswer.refused as notWritten}
 

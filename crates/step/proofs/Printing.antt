@@ -14,17 +14,17 @@ use Rattle.rules.specs.declared.battery.Record.{Record}
 use Rattle.rules.specs.Quantities.{isType}
 use Rattle.rules.specs.Numbers.{stateNumber, overrideNumber, contactorNumber}
 use Rattle.rules.specs.Protections.{maskBelow}
-use Rattle.rules.specs.Ledger.{Ledger, Accepted, atFirst, enter, refused, accepted, acceptedFrom, ifAccepted, entered, testOf, isTrippedOn, trippedMaskOn}
+use Rattle.rules.specs.Ledger.{Ledger, Accepted, atFirst, enter, accepted, testOf, isTrippedOn, trippedMaskOn}
 use Rattle.rules.specs.Stores.{longTerm}
 use Rattle.rules.specs.Accounts.{charged, discharged}
 use Rattle.rules.specs.Contactor.{isClosed}
 use Rattle.rules.specs.Shown.{longEntry, longEntries}
 use Rattle.rules.specs.Text.{eventLine, endLine, stopLine, Ending, atEnd, stopped, readLog, callLine, callLines, lastLine, logText, text}
 use Rattle.rules.proofs.Closing.{is-closed}
-use Rattle.step.specs.Fresh.{freshRecord, fresh}
+use Rattle.step.specs.Fresh.{freshRecord}
 use Rattle.step.specs.Close.{contactor}
 use Rattle.step.specs.Call.{call, run}
-use Rattle.step.specs.Print.{trippedOf, liveLine, printed, endOf, lastOf, printedLog, printedInput}
+use Rattle.step.specs.Print.{trippedOf, liveLine, printed, endOf, lastOf, printedInput}
 use Rattle.step.proofs.Lists.{length-first}
 use Rattle.step.proofs.Shows.{Shows, shows-fresh}
 use Rattle.step.proofs.Closing.{closed-is}

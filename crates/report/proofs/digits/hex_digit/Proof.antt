@@ -3,8 +3,6 @@ use Rattle.report.proofs.Spelling.{digit-small, digit-large}
 use borrow.Author.Needs.{needs}
 use Rattle.report.proofs.digits.hex_digit.Statement.{statement}
 use Rattle.report.proofs.digits.hex_digit.Tie as tie
-use Rattle.report.proofs.digits.hex_digit.Reads as reads
-use Rattle.report.proofs.digits.hex_digit.Lts as lts
 
 add-result : tie.Need-add-result
 add-result c = search needs

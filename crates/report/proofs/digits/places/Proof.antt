@@ -8,8 +8,6 @@ use Rattle.rules.proofs.Decimals.{decimal-length}
 use Rattle.report.proofs.Spelling.{left, left-is, counted, counted-all}
 use Rattle.report.proofs.digits.places.Statement.{statement}
 use Rattle.report.proofs.digits.places.Tie as tie
-use Rattle.report.proofs.digits.places.Reads as reads
-use Rattle.report.proofs.digits.places.Lts as lts
 
 abbrev Inv-loop : tie.InvT-loop
 Inv-loop n k₀ rest₀ k rest = k + left rest ≡ length (decimal n)

@@ -5,10 +5,6 @@ use Rattle.rules.proofs.Decimals.{decimal-length}
 use borrow.Author.Needs.{needs}
 use Rattle.report.proofs.digits.put_decimal.Statement.{statement}
 use Rattle.report.proofs.digits.put_decimal.Tie as tie
-use Rattle.report.proofs.digits.put_decimal.Reads as reads
-use Rattle.report.proofs.digits.put_decimal.Lts as lts
-use Rattle.report.proofs.digits.places.Reads as places-reads
-use Rattle.report.proofs.digits.spell.Reads as spell-reads
 
 places-requires : tie.Need-places-requires
 places-requires c κs = search needs

@@ -2,8 +2,6 @@ use borrow.Author.Needs.{needs}
 use Rattle.report.proofs.Spelling.{Spelled, spelled-none, spelled-more, spelled-all}
 use Rattle.report.proofs.digits.spell.Statement.{statement}
 use Rattle.report.proofs.digits.spell.Tie as tie
-use Rattle.report.proofs.digits.spell.Reads as reads
-use Rattle.report.proofs.digits.spell.Lts as lts
 
 abbrev Inv-loop : tie.InvT-loop
 Inv-loop n k out₀ at i₀ rest₀ out i rest = Spelled n k at out₀ i rest out

@@ -3,6 +3,7 @@ ghost use mathlib.Core.Path.{_≡_};
 ghost use Prim.Native.Nat.{_-_};
 ghost use Rattle.rules.specs.Quantities.{ms};
 ghost use Rattle.step.specs.Track.{beyondSince, withinSince, spanAt, trippedAt, tracked};
+ghost use Rattle.tracking.specs.Spans.{isWithin};
 use rules::tracking::ProtectionState;
 use rules::tracking::Span;
 use rules::units::Milliseconds;
@@ -71,6 +72,16 @@ fn tripped_at(
     }
 }
 
+fn is_within(span: Span) -> bool
+    ensures { λ r. ⌜ r ≡ isWithin span ⌝ }
+{
+    match span {
+        Span::Idle => false,
+        Span::Beyond(_) => false,
+        Span::Within(_) => true,
+    }
+}
+
 // By whether the measurement is plausible and beyond, whether it is plausible and within, and its time.
 pub fn track(
     beyond: bool,
@@ -83,6 +94,10 @@ pub fn track(
     ensures { λ r. ⌜ r ≡ tracked beyond within hold release t s ⌝ }
 {
     let before = s.span;
+    // Most frames leave a protection as it is: nothing of it is written anew then.
+    if !beyond & within & !s.tripped & is_within(before) {
+        return s;
+    }
     let span = span_at(beyond, within, t, before);
     let tripped = tripped_at(hold, release, t, span, s.tripped);
     ProtectionState { span, tripped }

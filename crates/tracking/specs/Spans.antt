@@ -1,0 +1,9 @@
+-- Which spans are within spans.
+use mathlib.Core.Bool.{Bool, true, false}
+use Rattle.rules.specs.declared.tracking.Span.{Span}
+use Rattle.rules.specs.declared.tracking.Span.the-variants.{Idle, Beyond, Within}
+
+abbrev pub isWithin : Span → Bool
+isWithin Idle = false
+isWithin (Beyond start) = false
+isWithin (Within start) = true

@@ -1,2 +1,3 @@
 -- Laws that the proofs here cite, and that callers of these functions may.
 pub mod Laws
+pub mod Ranges

@@ -8,6 +8,7 @@ ghost use lib.IntN.{pos};
 ghost use Rattle.rules.specs.Quantities.{mA, chargeRating};
 ghost use Rattle.rules.specs.Test.{cellInRange, currentInRange, temperatureInRange, plausible, maskOf, failedMask};
 ghost use Rattle.rules.specs.Protections.{higher, lower, hotter, colder, picked, extremes, permitted};
+ghost use Rattle.reading.specs.Ranges.{extremesInRange};
 use rules::reading::Extremes;
 use rules::reading::Reading;
 use rules::units::DeciCelsius;
@@ -76,12 +77,6 @@ pub fn failed_mask(r: Reading) -> u16
             r.temperature3,
         )
             * 512
-}
-
-pub fn plausible(r: Reading) -> bool
-    ensures { λ ok. ⌜ ok ≡ plausible r ⌝ }
-{
-    failed_mask(r) == 0
 }
 
 pub fn failed_count(mask: u16) -> u32
@@ -162,6 +157,23 @@ pub fn extremes(r: Reading) -> Extremes
             r.temperature3,
         ),
     }
+}
+
+// ---- plausible or not, by the extremes: the mask is wanted only where a sensor failed
+
+fn in_range(e: Extremes, i: Milliamperes) -> bool
+    ensures { λ ok. ⌜ ok ≡ extremesInRange e i ⌝ }
+{
+    let cells = (500 <= e.lowest.0) & (e.highest.0 <= 5000);
+    let temperatures = (-540 <= e.coldest.0) & (e.hottest.0 <= 880);
+    cells & (current_in_range(i) & temperatures)
+}
+
+pub fn plausible(r: Reading) -> bool
+    ensures { λ ok. ⌜ ok ≡ plausible r ⌝ }
+{
+    let e = extremes(r);
+    in_range(e, r.current)
 }
 
 // ---- the permitted charge current

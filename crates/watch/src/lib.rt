@@ -3,6 +3,7 @@ ghost use mathlib.Core.Path.{_≡_};
 ghost use mathlib.Core.Bool.{cond};
 ghost use Rattle.rules.specs.declared.states.TestResult.the-variants.{Passed, Failed as TestFailed};
 ghost use Rattle.rules.specs.declared.tracking.Previous.the-variants.{Nothing, Frame};
+ghost use Rattle.rules.specs.Test.{failedMask};
 ghost use Rattle.step.specs.Track.{observe as observeOf};
 ghost use Rattle.watch.specs.Sides.{trackBy, trackSides};
 use protection::Side;
@@ -73,12 +74,22 @@ fn test_of(plausible: bool) -> TestResult
     TestResult::Failed
 }
 
+// No sensor of a plausible measurement failed: its mask is not computed.
+fn mask_of(plausible: bool, r: Reading) -> u16
+    ensures { λ m. ⌜ m ≡ cond plausible 0 (failedMask r) ⌝ }
+{
+    if plausible {
+        return 0;
+    }
+    reading::failed_mask(r)
+}
+
 pub fn observe(battery: u8, t: Milliseconds, r: Reading, w: Watch) -> Watch
     ensures { λ n. ⌜ n ≡ observeOf battery t r w ⌝ }
 {
-    let mask = reading::failed_mask(r);
-    let failed = reading::failed_count(mask);
     let plausible = reading::plausible(r);
+    let mask = mask_of(plausible, r);
+    let failed = reading::failed_count(mask);
     let sides = protection::sides(battery, r);
     let states = w.protections;
     let protections = track_sides(plausible, sides, t, states);

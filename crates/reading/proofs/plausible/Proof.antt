@@ -1,13 +1,16 @@
-use Rattle.reading.proofs.Laws.{plausible-is}
+use Rattle.reading.proofs.Ranges.{plausible-by-extremes}
 use borrow.Author.Needs.{needs}
 use Rattle.reading.proofs.plausible.Statement.{statement}
 use Rattle.reading.proofs.plausible.Tie as tie
 
-failed-mask-requires : tie.Need-failed-mask-requires
-failed-mask-requires c κs = search needs
+extremes-requires : tie.Need-extremes-requires
+extremes-requires c κs = search needs
+
+in-range-requires : tie.Need-in-range-requires
+in-range-requires c κs = search needs
 
 returns : tie.Need-returns
-returns c = rw (c .failed-mask .ensures, plausible-is (c .before .args .r))
+returns c = rw (c .in-range .ensures, c .before .extremes .ensures) (plausible-by-extremes (c .before .before .args .r))
 
 pub plausible-spec : {M : Type 1} → statement M
-plausible-spec = tie.close (tie.spec failed-mask-requires returns)
+plausible-spec = tie.close (tie.spec extremes-requires in-range-requires returns)

@@ -29,8 +29,10 @@ fn charge(previous: Previous, plausible: bool, t: Milliseconds, n: Tally) -> Tal
                 let d = tracking::elapsed(start, t);
                 let into = n.charged;
                 let out = n.discharged;
-                let charged = Charge(into.0 + account::inflow(i, d.0));
-                let discharged = Charge(out.0 + account::outflow(i, d.0));
+                let gained = account::inflow(i, d);
+                let charged = Charge(into.0 + gained.0);
+                let lost = account::outflow(i, d);
+                let discharged = Charge(out.0 + lost.0);
                 return Tally {
                     charged,
                     discharged,

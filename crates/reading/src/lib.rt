@@ -15,24 +15,36 @@ use rules::units::DeciCelsius;
 use rules::units::Milliamperes;
 use rules::units::Millivolts;
 
-// ---- the built-in test
+// ---- the built-in test: the ranges of plausible values
+
+const LEAST_CELL: Millivolts = Millivolts(500);
+
+const GREATEST_CELL: Millivolts = Millivolts(5000);
+
+const LEAST_CURRENT: Milliamperes = Milliamperes(-2000000);
+
+const GREATEST_CURRENT: Milliamperes = Milliamperes(2000000);
+
+const LEAST_TEMPERATURE: DeciCelsius = DeciCelsius(-540);
+
+const GREATEST_TEMPERATURE: DeciCelsius = DeciCelsius(880);
 
 fn cell_in_range(v: Millivolts) -> bool
     ensures { λ r. ⌜ r ≡ cellInRange v ⌝ }
 {
-    (500 <= v.0) & (v.0 <= 5000)
+    (LEAST_CELL.0 <= v.0) & (v.0 <= GREATEST_CELL.0)
 }
 
 fn current_in_range(i: Milliamperes) -> bool
     ensures { λ r. ⌜ r ≡ currentInRange i ⌝ }
 {
-    (-2000000 <= i.0) & (i.0 <= 2000000)
+    (LEAST_CURRENT.0 <= i.0) & (i.0 <= GREATEST_CURRENT.0)
 }
 
 fn temperature_in_range(t: DeciCelsius) -> bool
     ensures { λ r. ⌜ r ≡ temperatureInRange t ⌝ }
 {
-    (-540 <= t.0) & (t.0 <= 880)
+    (LEAST_TEMPERATURE.0 <= t.0) & (t.0 <= GREATEST_TEMPERATURE.0)
 }
 
 // The bit of a sensor, by its weight: set where its value is out of range.
@@ -164,8 +176,9 @@ pub fn extremes(r: Reading) -> Extremes
 fn in_range(e: Extremes, i: Milliamperes) -> bool
     ensures { λ ok. ⌜ ok ≡ extremesInRange e i ⌝ }
 {
-    let cells = (500 <= e.lowest.0) & (e.highest.0 <= 5000);
-    let temperatures = (-540 <= e.coldest.0) & (e.hottest.0 <= 880);
+    let cells = (LEAST_CELL.0 <= e.lowest.0) & (e.highest.0 <= GREATEST_CELL.0);
+    let temperatures = (LEAST_TEMPERATURE.0 <= e.coldest.0)
+        & (e.hottest.0 <= GREATEST_TEMPERATURE.0);
     cells & (current_in_range(i) & temperatures)
 }
 

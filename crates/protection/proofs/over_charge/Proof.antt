@@ -6,18 +6,18 @@ use Rattle.protection.proofs.Laws.{sum-fits}
 use Rattle.protection.proofs.over_charge.Statement.{statement}
 use Rattle.protection.proofs.over_charge.Tie as tie
 
-add-t5 : tie.Need-add-t5
-add-t5 c =
-    let p = c .before .before .args .permitted .0 in
+add-t6 : tie.Need-add-t6
+add-t6 c =
+    let p = c .before .before .before .before .args .permitted .0 in
     let f : SFits w32 p = search needs in
-    rw (toZ-ofZ f) (sum-fits p (c .before .before .pre))
+    rw (toZ-ofZ f) (sum-fits p (c .before .before .before .before .pre))
 
 returns : tie.Need-returns
 returns c =
-    let p = c .before .before .args .permitted .0 in
+    let p = c .before .before .before .before .args .permitted .0 in
     let f : SFits w32 p = search needs in
-    let g : SFits w32 (c .before .before .args .i .0) = search needs in
-    rw (toZ-ofZ f, toZ-ofZ g, toZ-ofZ (sum-fits p (c .before .before .pre)))
+    let g : SFits w32 (c .before .before .before .before .args .i .0) = search needs in
+    rw (toZ-ofZ f, toZ-ofZ g, toZ-ofZ (sum-fits p (c .before .before .before .before .pre)))
 
 pub over-charge-spec : {M : Type 1} → statement M
-over-charge-spec = tie.close (tie.spec add-t5 returns)
+over-charge-spec = tie.close (tie.spec add-t6 returns)

@@ -10,7 +10,7 @@ current-in-range-requires c κs = search needs
 
 returns : tie.Need-returns
 returns c =
-    let e = c .before .before .before .before .before .before .before .args .e in
+    let e = c .before .before .before .before .before .before .before .before .before .before .before .before .before .args .e in
     let cold : toZ w16 (ofZ w16 (e .coldest .0)) ≡ e .coldest .0 = search needs in
     let hot : toZ w16 (ofZ w16 (e .hottest .0)) ≡ e .hottest .0 = search needs in
     rw (cold, hot, c .current-in-range .ensures)

@@ -16,9 +16,9 @@ returns c = search needs
 
 returns-2 : tie.Need-returns-2
 returns-2 c =
-    let i = c .before .before .before .before .before .p .given .0 .1 .0 .0 in
+    let i = c .before .before .before .before .before .before .before .before .before .p .given .0 .1 .0 .0 in
     let same : toZ w32 (ofZ w32 i) ≡ i = search needs in
-    rw (same, c .before .before .before .before .before .p .given .1)
+    rw (same, c .before .before .before .before .before .before .before .before .before .p .given .1)
 
 pub current-kept-spec : {M : Type 1} → statement M
 current-kept-spec = tie.close (tie.spec enum-told enum-known-p returns returns-2)

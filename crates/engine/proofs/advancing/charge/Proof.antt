@@ -15,14 +15,14 @@ elapsed-requires c κs = search needs
 inflow-requires : tie.Need-inflow-requires
 inflow-requires c κs = search needs
 
-add-t15 : tie.Need-add-t15
-add-t15 c = search needs
+add-t16 : tie.Need-add-t16
+add-t16 c = search needs
 
 outflow-requires : tie.Need-outflow-requires
 outflow-requires c κs = search needs
 
-add-t15-2 : tie.Need-add-t15-2
-add-t15-2 c = search needs
+add-t16-2 : tie.Need-add-t16-2
+add-t16-2 c = search needs
 
 returns : tie.Need-returns
 returns c = search (charged, needs)
@@ -41,9 +41,9 @@ charge-spec =
     enum-known-previous
     elapsed-requires
     inflow-requires
-    add-t15
+    add-t16
     outflow-requires
-    add-t15-2
+    add-t16-2
     returns
     returns-2
     returns-3)

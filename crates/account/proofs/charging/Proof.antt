@@ -4,8 +4,8 @@ use mir.Val.{SFits}
 use mir.Facts.{fits-natAbs}
 use borrow.Author.Needs.{needs}
 use Rattle.account.proofs.Laws.{read, product-fits, product-small, no-inflow, is-inflow, not-negative}
-use Rattle.account.proofs.inflow.Statement.{statement}
-use Rattle.account.proofs.inflow.Tie as tie
+use Rattle.account.proofs.charging.Statement.{statement}
+use Rattle.account.proofs.charging.Tie as tie
 
 returns : tie.Need-returns
 returns c =
@@ -31,5 +31,5 @@ returns-2 c =
     let f : SFits w32 z = search needs in
     rw (read f) (is-inflow z (rw (read f) at (c .if1 .left)) _, product-small z (c .before .before .args .elapsed) f (c .before .before .fits .elapsed .fits))
 
-pub inflow-spec : {M : Type 1} → statement M
-inflow-spec = tie.close (tie.spec returns cast-result mul-result returns-2)
+pub charging-spec : {M : Type 1} → statement M
+charging-spec = tie.close (tie.spec returns cast-result mul-result returns-2)

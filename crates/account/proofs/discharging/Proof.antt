@@ -4,8 +4,8 @@ use mir.Val.{SFits}
 use mir.Facts.{fits-natAbs, sfits-widen}
 use borrow.Author.Needs.{needs}
 use Rattle.account.proofs.Laws.{read, product-fits, product-small, is-outflow, no-outflow, negation-fits, negation-read}
-use Rattle.account.proofs.outflow.Statement.{statement}
-use Rattle.account.proofs.outflow.Tie as tie
+use Rattle.account.proofs.discharging.Statement.{statement}
+use Rattle.account.proofs.discharging.Tie as tie
 
 cast-n : tie.Need-cast-n
 cast-n c =
@@ -43,5 +43,5 @@ returns-2 c =
     let f : SFits w32 z = search needs in
     (no-outflow z (rw (read f) at (c .if1 .left)) _, zero-le)
 
-pub outflow-spec : {M : Type 1} → statement M
-outflow-spec = tie.close (tie.spec cast-n sub-n cast-result mul-result returns returns-2)
+pub discharging-spec : {M : Type 1} → statement M
+discharging-spec = tie.close (tie.spec cast-n sub-n cast-result mul-result returns returns-2)

@@ -1,8 +1,8 @@
 #!/usr/bin/env python3
 """engine_test.py VECTORS MODEL: writes what crates/engine_test runs on and must print. It runs on the logs of VECTORS, on logs made here
 that show one thing each, and on a table of records for `stdin`. The text is the vectors' .view files, then what MODEL (peer's `model`,
-written from document 01 alone) holds after each log made here, then the records, judged here by document 01's list "Unsound". Nothing of
-the engine's own is read."""
+written from document 01 alone) holds after each log made here, each view with the number of entries in both stores after it; then the
+records, judged here by document 01's list "Unsound". Nothing of the engine's own is read."""
 import pathlib
 import struct
 import subprocess
@@ -13,9 +13,11 @@ HERE = pathlib.Path(__file__).resolve().parent.parent / "crates" / "engine_test"
 
 # ---- logs, by the layout of "Seven kinds of call"
 
-def measurement(t, cells=3300, current=0, temperature=250):
+def measurement(t, cells=3300, current=0, temperatures=250):
+    """Cells and temperatures: a value for all of them, or one for each."""
     cells = [cells] * 8 if isinstance(cells, int) else cells
-    return struct.pack("<BI8Hi4h", 1, t, *cells, current, *[temperature] * 4)
+    temperatures = [temperatures] * 4 if isinstance(temperatures, int) else temperatures
+    return struct.pack("<BI8Hi4h", 1, t, *cells, current, *temperatures)
 
 
 def power_on(t):
@@ -51,6 +53,31 @@ def short_circuits(count):
         yield measurement(t + 1500)
 
 
+def sensors():
+    """Each sensor at both ends of its range and one past them: its bit in the mask or None, and what the measurement holds."""
+    for k in range(8):
+        for v, bit in (500, None), (499, k), (5000, None), (5001, k):
+            yield bit, dict(cells=[v if j == k else 3300 for j in range(8)])
+    for i, bit in (-2_000_000, None), (-2_000_001, 8), (2_000_000, None), (2_000_001, 8):
+        yield bit, dict(current=i)
+    for k in range(4):
+        for v, bit in (-540, None), (-541, 9 + k), (880, None), (881, 9 + k):
+            yield bit, dict(temperatures=[v if j == k else 250 for j in range(4)])
+
+
+def failed():
+    """A log for each failed sensor, below its range and above it, with the mask that document 01 gives; one with all 13; and one whose
+    failures a power on forgets."""
+    sides = {}
+    for bit, held in sensors():
+        if bit is not None:
+            sides[bit] = "high" if bit in sides else "low"
+            yield f"failed_{bit}_{sides[bit]}", 1 << bit, [power_on(0), measurement(0), measurement(10, **held)]
+    every = [power_on(0), measurement(10, 0, -2**31, -2**15)]
+    yield "failed_all", 2**13 - 1, every
+    yield "failed_forgotten", 0, [*every, power_loss(20), power_on(30)]
+
+
 MAINTENANCE = [request(0, 2), request(0, 3)]
 LOW = [1699] + [3300] * 7  # one cell below 1,700: protection 1, and a spread above 500: protection 7
 
@@ -71,14 +98,20 @@ LOGS = {
                             measurement(3600, 3500), measurement(5600, 3500)],
     # mistake: stretching a span over a power loss
     "stretched": [power_on(0), measurement(0, 3651), power_loss(100), power_on(200), measurement(600, 3651)],
-    # mistake: letting Force closed pass a tripped protection with override off; with it on, protection 1 is lifted
-    "force_closed": [power_on(0), *MAINTENANCE, command(0, 2), measurement(0, LOW), measurement(2000, LOW)],
+    # mistake: letting Force closed pass a tripped protection with override off; with it on, protection 1 is lifted. The two lists are alike
+    # in all but that value
+    "force_closed": [power_on(0), *MAINTENANCE, command(0, 2), override(0, 0), measurement(0, LOW), measurement(2000, LOW)],
     "force_closed_lifted": [power_on(0), *MAINTENANCE, command(0, 2), override(0, 1), measurement(0, LOW), measurement(2000, LOW)],
     # mistake: skipping trip entries under override
     "override_entries": [power_on(0), request(0, 2), override(0, 1), measurement(0, LOW), measurement(10_000, LOW)],
     # mistake: keeping the newest 64
     "newest": [power_on(0), *short_circuits(65)],
+    **{name: events for name, _, events in failed()},
 }
+
+# what the model's views are held to besides, by document 01 alone
+COUNTS = {"seventy": (64, 16), "seventy_cleared": (0, 16), "twenty": (10, 16), "newest": (64, 16)}
+MASKS = {name: mask for name, mask, _ in failed()}
 
 
 # ---- records of the list "Unsound": a sound record of type 1, Operational, last time 1,000, with one thing changed
@@ -168,7 +201,9 @@ contactor 0
 charged 0
 discharged 0
 long -
-short -"""
+short -
+long_count 0
+short_count 0"""
 
 
 def ceiling_lines():
@@ -179,22 +214,48 @@ def ceiling_lines():
     yield view(0, 0)
 
 
+def entries(export):
+    """How many entries an export in hex holds, by the lengths of "Stores and accounts"."""
+    count, at = 0, 0
+    data = b"" if export == "-" else bytes.fromhex(export)
+    while at < len(data):
+        at += {0x21: 10, 0x22: 6}[data[at]]
+        count += 1
+    assert at == len(data)
+    return count
+
+
+def counted(shown):
+    """A view, and after it the number of entries in each store, which a view leaves out."""
+    named = dict(s.split(" ", 1) for s in shown.splitlines())
+    return shown + f"long_count {entries(named['long'])}\nshort_count {entries(named['short'])}\n"
+
+
+def judge(name, text):
+    if name in COUNTS:
+        assert text.endswith("long_count %d\nshort_count %d\n" % COUNTS[name]), name
+    if name in MASKS:
+        assert "\nfailed %04x\nfailed_count %d\n" % (MASKS[name], MASKS[name].bit_count()) in text, name
+
+
 def main():
     vectors, model = pathlib.Path(sys.argv[1]), sys.argv[2]
     names, text = [], []
     for log in sorted(vectors.glob("*.log")):
         names.append(log.name)
-        text.append(f"{log.name}\n{log.with_suffix('.view').read_text()}")
+        text.append(f"{log.name}\n{counted(log.with_suffix('.view').read_text())}")
     for name, events in LOGS.items():
         log = bytes([1]) + b"".join(events)
         (HERE / "data" / f"{name}.log").write_bytes(log)
         names.append(f"{name}.log")
         shown = subprocess.run([model, "--view"], input=log, capture_output=True, check=True).stdout.decode()
-        text.append(f"{name}.log\n{shown}")
+        text.append(f"{name}.log\n{counted(shown)}")
+        judge(name, text[-1])
     text += [s + "\n" for s in [*limit_lines(), *ceiling_lines()]]
     (HERE / "stdin").write_bytes(b"".join(table()))
     (HERE / "args").write_text("".join(n + "\n" for n in names))
     (HERE / "stdout").write_text("".join(text))
 
 
-main()
+if __name__ == "__main__":
+    main()

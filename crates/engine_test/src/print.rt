@@ -2,6 +2,7 @@
 use rules::answers::Written;
 use rules::battery::Live;
 use rules::battery::Record;
+use rules::stores::Stores;
 
 pub fn text(s: &[u8]) {
     io::write_all(1, s);
@@ -100,6 +101,11 @@ fn short(r: Record) {
     written(w, &buffer);
 }
 
+fn counts(s: Stores) {
+    line(b"long_count ", views::long_count(s) as u64);
+    line(b"short_count ", views::short_count(s) as u64);
+}
+
 pub fn record(r: Record) {
     let l = r.live;
     line(b"type ", wide(l.battery));
@@ -108,4 +114,5 @@ pub fn record(r: Record) {
     accounts(l);
     long(r);
     short(r);
+    counts(r.stores);
 }

@@ -1,8 +1,9 @@
 #!/usr/bin/env python3
 """engine_test.py VECTORS MODEL: writes what crates/engine_test runs on and must print. It runs on the logs of VECTORS, on logs made here
-that show one thing each, and on a table of records for `stdin`. The text is the vectors' .view files, then what MODEL (peer's `model`,
-written from document 01 alone) holds after each log made here, each view with the number of entries in both stores after it; then the
-records, judged here by document 01's list "Unsound". Nothing of the engine's own is read."""
+that show one thing each, and on a table of records for `stdin`. The text is what a reader answers
+step by step on the first two logs, by document 01's lengths; what MODEL (peer's `model`, written from document 01 alone) holds after each
+log made here and the vectors' .view files, each view with the number of entries in both stores after it; then the records, judged here by
+document 01's list "Unsound". Nothing of the engine's own is read."""
 import pathlib
 import struct
 import subprocess
@@ -81,7 +82,14 @@ def failed():
 MAINTENANCE = [request(0, 2), request(0, 3)]
 LOW = [1699] + [3300] * 7  # one cell below 1,700: protection 1, and a spread above 500: protection 7
 
+# what the reader is shown to read, step by step: a log of each kind to its end, and one to a last byte that isn't in its list
+STEPS = {
+    "steps": [power_on(0), *MAINTENANCE, measurement(0), command(0, 1), override(0, 1), clear(0), power_loss(0)],
+    "steps_refused": [power_on(0), measurement(0), command(0, 3), power_loss(0)],
+}
+
 LOGS = {
+    **STEPS,
     # 70 trips: the first 64 stay; a clear leaves none
     "seventy": [power_on(0), *MAINTENANCE, *short_circuits(70)],
     "seventy_cleared": [power_on(0), *MAINTENANCE, *short_circuits(70), clear(140_000)],
@@ -238,12 +246,28 @@ def judge(name, text):
         assert "\nfailed %04x\nfailed_count %d\n" % (MASKS[name], MASKS[name].bit_count()) in text, name
 
 
+BODIES = {1: 32, 2: 4, 3: 4, 4: 5, 5: 5, 6: 5, 7: 4}
+
+
+def step_lines(events):
+    """Ten reads, by the body lengths of "Seven kinds of call". The one refusal is of a command's last byte."""
+    log, at = bytes([1]) + b"".join(events), 1
+    for _ in range(10):
+        if at == len(log):
+            answer = "end"
+        elif log[at] == 4 and log[at + 5] > 2:
+            answer = f"refused 4 at {at}"
+        else:
+            at += 1 + BODIES[log[at]]
+            answer = f"found, next {at}"
+        yield f"{answer}, position {at}, rest {len(log) - at}\n"
+
+
 def main():
     vectors, model = pathlib.Path(sys.argv[1]), sys.argv[2]
     names, text = [], []
-    for log in sorted(vectors.glob("*.log")):
-        names.append(log.name)
-        text.append(f"{log.name}\n{counted(log.with_suffix('.view').read_text())}")
+    for name, events in STEPS.items():
+        text += [f"{name}.log\n", *step_lines(events)]
     for name, events in LOGS.items():
         log = bytes([1]) + b"".join(events)
         (HERE / "data" / f"{name}.log").write_bytes(log)
@@ -251,6 +275,9 @@ def main():
         shown = subprocess.run([model, "--view"], input=log, capture_output=True, check=True).stdout.decode()
         text.append(f"{name}.log\n{counted(shown)}")
         judge(name, text[-1])
+    for log in sorted(vectors.glob("*.log")):
+        names.append(log.name)
+        text.append(f"{log.name}\n{counted(log.with_suffix('.view').read_text())}")
     text += [s + "\n" for s in [*limit_lines(), *ceiling_lines()]]
     (HERE / "stdin").write_bytes(b"".join(table()))
     (HERE / "args").write_text("".join(n + "\n" for n in names))

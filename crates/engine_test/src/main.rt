@@ -1,11 +1,13 @@
 // Runs calls through the engine and prints the records that they leave, with the exports of their stores.
-// Each argument names a log, whose record is printed as it is after the last readable event. Records that no log leaves follow: unsound
+// Each argument names a log, whose record is printed as it is after the last readable event; the first two are read step by step before
+// that. Records that no log leaves follow: unsound
 // ones and those just inside each limit, from the table on standard input, and one whose command count is next to its ceiling.
 mod ceiling;
 mod compare;
 mod edit;
 mod limits;
 mod print;
+mod steps;
 
 use log::reader;
 use rules::answers::ReadEvent;
@@ -35,7 +37,7 @@ fn run(input: &[u8]) {
     }
 }
 
-fn read_log(i: usize) {
+fn read_log(i: usize, by_steps: bool) {
     let mut path = io::buffer();
     let length = os::arg(i, &mut path);
     print::text(&path[..length]);
@@ -48,19 +50,26 @@ fn read_log(i: usize) {
     let mut input = io::large_buffer();
     let n = io::read_full(fd, &mut input);
     libc::close(fd);
-    run(&input[..n]);
+    let log = &input[..n];
+    if by_steps {
+        steps::run(log);
+    } else {
+        run(log);
+    }
 }
 
 fn read_logs() {
     let count = os::arg_count();
     let mut i: usize = 1;
     while i < count {
-        read_log(i);
+        read_log(i, false);
         i += 1;
     }
 }
 
 fn main() {
+    read_log(1, true);
+    read_log(2, true);
     read_logs();
     let mut table = io::large_buffer();
     let n = io::read_full(0, &mut table);

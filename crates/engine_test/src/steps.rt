@@ -1,0 +1,65 @@
+// The reader that holds its log, at work on a log: ten reads in turn, and for each the answer, the reader's position afterwards and the length
+// of the remainder. After "end" and after a refusal the reads go on, to the same answer. A reader in a loop isn't covered, so that each read
+// makes one where the last stood.
+ghost use mathlib.Core.Path.{_≡_};
+ghost use lib.ListN.{drop};
+ghost use Rattle.log.specs.Position.{nextPosition};
+use crate::print;
+use log::reader;
+use rules::answers::ReadEvent;
+
+fn moved(log: &[u8], position: usize) -> usize
+    ensures { λ n. ⌜ n ≡ nextPosition (now (log .entry)) position ⌝ }
+{
+    let mut r = reader::starting_at(log, position);
+    reader::next(&mut r);
+    r.position
+}
+
+fn rest_at(log: &[u8], position: usize) -> &[u8]
+    ensures { λ s. ⌜ now s ≡ drop position (now (log .entry)) ⌝ }
+{
+    reader::rest(reader::starting_at(log, position))
+}
+
+fn print_answer(a: ReadEvent) {
+    match a {
+        ReadEvent::Found(_, next) => {
+            print::text(b"found, next ");
+            print::number(next as u64);
+        }
+        ReadEvent::End => print::text(b"end"),
+        ReadEvent::Refused(n, at) => {
+            print::text(b"refused ");
+            print::number(n as u64);
+            print::text(b" at ");
+            print::number(at as u64);
+        }
+    }
+}
+
+fn step(log: &[u8], at: usize) -> usize {
+    print_answer(reader::event_at(log, at));
+    let next = moved(log, at);
+    print::text(b", position ");
+    print::number(next as u64);
+    let rest = rest_at(log, next);
+    print::text(b", rest ");
+    print::number(rest.len() as u64);
+    print::text(b"\n");
+    next
+}
+
+// The events stand after the type byte.
+pub fn run(log: &[u8]) {
+    let a = step(log, 1);
+    let b = step(log, a);
+    let c = step(log, b);
+    let d = step(log, c);
+    let e = step(log, d);
+    let f = step(log, e);
+    let g = step(log, f);
+    let h = step(log, g);
+    let i = step(log, h);
+    step(log, i);
+}

@@ -1,6 +1,6 @@
-// The reader that holds its log, at work on a log: ten reads in turn, and for each the answer, the reader's position afterwards and the length
-// of the remainder. After "end" and after a refusal the reads go on, to the same answer. A reader in a loop isn't covered, so that each read
-// makes one where the last stood.
+// The reader that holds its log, at work on a log: ten reads in turn, and for each the answer, the reader's position afterwards and the
+// length of the remainder. After "end" and after a refusal the reads go on, to the same answer. A loop over a reader isn't covered, so each
+// read makes one where the last stood.
 ghost use mathlib.Core.Path.{_≡_};
 ghost use lib.ListN.{drop};
 ghost use Rattle.log.specs.Position.{nextPosition};

@@ -1,4 +1,5 @@
 pub mod Answers
 pub mod Bounds
+pub mod Decided
 pub mod Front
 pub mod Unread

@@ -1,2 +1,3 @@
+pub mod Decisions
 pub mod Tail
 pub mod Turns

@@ -1,5 +1,6 @@
 // The program on file descriptors: it reads a log in parts and writes the lines that `report` makes of each. A run that fails says so on
 // standard error and writes no last line, so that what it wrote never looks like a whole table.
+mod decision;
 mod parts;
 mod tail;
 mod transfer;
@@ -25,6 +26,7 @@ pub fn run(input: i32, output: i32) {
         progress,
         at: 1,
         have,
+        whole: true,
         done: false,
     };
     parts::all(input, output, start, &mut bytes);

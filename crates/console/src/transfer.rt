@@ -1,4 +1,5 @@
 // Reads and writes that a signal does not break off.
+ghost use Prim.Native.Nat.{_≤_};
 ghost use lib.ListN.{length};
 ghost use Rattle.libc.specs.Io.{Moved};
 
@@ -38,16 +39,18 @@ fn write_some(fd: i32, buffer: &[u8]) -> isize
     -1
 }
 
-// Whether all of the buffer was written. Where it was not, errno says why.
-pub(crate) fn write_all(fd: i32, buffer: &[u8]) -> bool {
+// Writes the buffer, and answers how much of it was written. Where that is not all, errno says why.
+pub(crate) fn write_all(fd: i32, buffer: &[u8]) -> usize
+    ensures { λ r. ⌜ r ≤ length (now (buffer .entry)) ⌝ }
+{
     let mut done: usize = 0;
     while done < buffer.len() {
         let put = write_some(fd, &buffer[done..]);
         let n = io::count(put, &buffer[done..]);
         if n == 0 {
-            return false;
+            return done;
         }
         done += n;
     }
-    true
+    done
 }

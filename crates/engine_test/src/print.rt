@@ -1,4 +1,5 @@
 // A record and its exports as text: a line each, of a name and a value.
+ghost use mathlib.Core.Path.{_≡_};
 use rules::answers::Written;
 use rules::battery::Live;
 use rules::battery::Record;
@@ -24,7 +25,9 @@ fn hex_line(name: &[u8], n: u64, width: usize) {
     text(b"\n");
 }
 
-fn wide(x: u8) -> u64 {
+fn wide(x: u8) -> u64
+    ensures { λ r. ⌜ r ≡ x ⌝ }
+{
     x as u64
 }
 

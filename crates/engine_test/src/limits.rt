@@ -3,6 +3,8 @@
 // early), whether a refused call leaves the record as it was, and what both exports answer, with whether the buffer holds what it held
 // after the bytes written.
 ghost use mathlib.Core.Path.{_≡_};
+ghost use lib.ListN.{length};
+ghost use Rattle.engine_test.specs.Verdicts.{filledTo};
 use crate::compare;
 use crate::edit;
 use crate::print;
@@ -20,7 +22,9 @@ fn wide(x: u8) -> usize
 }
 
 // Of the byte that every buffer is filled with.
-fn untouched(s: &[u8]) -> bool {
+fn untouched(s: &[u8]) -> bool
+    ensures { λ b. ⌜ b ≡ filledTo (length (now (s .entry))) (now (s .entry)) ⌝ }
+{
     let mut same = true;
     let mut i = 0;
     while i < s.len() {

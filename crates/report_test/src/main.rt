@@ -1,7 +1,9 @@
 // Runs `report` on the log on its standard input and prints what comes out: for each prefix, then for all of it in two parts, divided at
 // each place, then with room for one line at a time.
+ghost use mathlib.Core.Path.{_≡_};
 ghost use Prim.Native.Nat.{_≤_};
 ghost use lib.ListN.{length};
+ghost use Rattle.report_test.specs.Full.{isFull};
 use report::Part;
 use report::Progress;
 use report::Why;
@@ -99,7 +101,9 @@ fn divisions(log: &[u8]) {
     }
 }
 
-fn is_full(why: Why) -> bool {
+fn is_full(why: Why) -> bool
+    ensures { λ b. ⌜ b ≡ isFull why ⌝ }
+{
     match why {
         Why::Full => true,
         Why::End => false,

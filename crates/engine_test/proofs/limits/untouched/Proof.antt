@@ -1,3 +1,8 @@
+use mathlib.Core.Path.{_≡_, refl}
+use Prim.Native.Nat.{_≤_}
+use native.Mathlib.Omega.{arith}
+use Rattle.engine_test.specs.Verdicts.{filledTo}
+use Rattle.engine_test.proofs.Filling.{filled-more}
 use Prim.Native.Nat.{_-_}
 use lib.ListN.{length}
 use borrow.Author.Needs.{needs}
@@ -5,13 +10,13 @@ use Rattle.engine_test.proofs.limits.untouched.Statement.{statement}
 use Rattle.engine_test.proofs.limits.untouched.Tie as tie
 
 abbrev Inv-loop : tie.InvT-loop
-Inv-loop s same₀ i₀ same i = Unit {0}
+Inv-loop s same₀ i₀ same i = (i ≤ length s) × (same ≡ filledTo i s)
 
 abbrev μ-loop : tie.MeasureT-loop
 μ-loop s same₀ i₀ same i = length s - i
 
 loop-holds : tie.Need-loop-holds Inv-loop μ-loop
-loop-holds c = search needs
+loop-holds c = (omega arith, refl)
 
 shared-slice-read-same : tie.Need-shared-slice-read-same Inv-loop μ-loop
 shared-slice-read-same c = search needs
@@ -23,10 +28,15 @@ loop-less : tie.Need-loop-less Inv-loop μ-loop
 loop-less c = search needs
 
 loop-again : tie.Need-loop-again Inv-loop μ-loop
-loop-again c = search needs
+loop-again c = (
+  search needs,
+  filled-more (c .before .before .before .args .s .now) (c .before .before .loop .i) (c .before .before .loop .same) (c .before .before .loop .inv .1),
+)
 
 returns : tie.Need-returns Inv-loop μ-loop
-returns c = search needs
+returns c =
+    let end : c .before .loop .i ≡ length (c .before .before .args .s .now) = omega arith in
+    rw (← end) (c .before .loop .inv .1)
 
 pub untouched-spec : {M : Type 1} → statement M
 untouched-spec =

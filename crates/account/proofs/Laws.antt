@@ -2,7 +2,7 @@
 use mathlib.Core.Path.{_≡_, refl, subst, ap, _∙_}
 use mathlib.Core.Bool.{true, false}
 use Prim.Native.Nat.{ℕ, _*_, _<_, _≤_, _^_}
-use native.Mathlib.Nat.{mul-le-mul, le-of-lt}
+use native.Mathlib.Nat.{mul-le-mul, le-of-lt, zero-mul}
 use native.Mathlib.Omega.{arith}
 use borrow.Author.Tests.{ltb-true}
 use lib.Dec.{T}
@@ -11,7 +11,8 @@ use lib.Signed.{ltZ, nonNeg, natAbs-le}
 use mir.Syntax.{w32, w64}
 use mir.Val.{Fits, SFits, toZ, ofZ}
 use mir.Facts.{fits-le, fits-lit, sfits-widen, toZ-ofZ}
-use Rattle.step.specs.Charge.{inflow, outflow}
+use Rattle.rules.specs.Quantities.{mA, ms, mAms}
+use Rattle.rules.specs.Accounts.{positiveTimes, negativeTimes}
 
 -- a number of 32 bits reads as itself, at 64 too
 pub read : {z : ℤ} → SFits w32 z → toZ w32 (ofZ w32 z) ≡ z
@@ -29,17 +30,17 @@ pub product-small : (z : ℤ) (n : ℕ) → SFits w32 z → n < 2 ^ 32 → natAb
 product-small z n f h = mul-le-mul (natAbs-le z (f .sfits)) (le-of-lt h)
 
 module _ (z : ℤ) (negative : ltZ z (pos 0) ≡ true) where
-  pub no-inflow : (n : ℕ) → 0 ≡ inflow z n
+  pub no-inflow : (n : ℕ) → mAms 0 ≡ positiveTimes (mA z) (ms n)
   no-inflow n = go z negative
     where
-      go : (z : ℤ) → ltZ z (pos 0) ≡ true → 0 ≡ inflow z n
+      go : (z : ℤ) → ltZ z (pos 0) ≡ true → mAms 0 ≡ positiveTimes (mA z) (ms n)
       go (pos k) e = absurd (omega (arith, ltb-true k 0 e))
-      go (negsuc k) e = refl
+      go (negsuc k) e = rw (zero-mul n) refl
 
-  pub is-outflow : (n : ℕ) → natAbs z * n ≡ outflow z n
+  pub is-outflow : (n : ℕ) → mAms (natAbs z * n) ≡ negativeTimes (mA z) (ms n)
   is-outflow n = go z negative
     where
-      go : (z : ℤ) → ltZ z (pos 0) ≡ true → natAbs z * n ≡ outflow z n
+      go : (z : ℤ) → ltZ z (pos 0) ≡ true → mAms (natAbs z * n) ≡ negativeTimes (mA z) (ms n)
       go (pos k) e = absurd (omega (arith, ltb-true k 0 e))
       go (negsuc k) e = refl
 
@@ -64,17 +65,17 @@ module _ (z : ℤ) (negative : ltZ z (pos 0) ≡ true) where
   negation-read f = toZ-ofZ (negation-fits f) ∙ negation-is f
 
 module _ (z : ℤ) (positive : ltZ z (pos 0) ≡ false) where
-  pub no-outflow : (n : ℕ) → 0 ≡ outflow z n
+  pub no-outflow : (n : ℕ) → mAms 0 ≡ negativeTimes (mA z) (ms n)
   no-outflow n = go z positive
     where
-      go : (z : ℤ) → ltZ z (pos 0) ≡ false → 0 ≡ outflow z n
-      go (pos k) e = refl
+      go : (z : ℤ) → ltZ z (pos 0) ≡ false → mAms 0 ≡ negativeTimes (mA z) (ms n)
+      go (pos k) e = rw (zero-mul n) refl
       go (negsuc k) e = absurd (subst T e tt)
 
-  pub is-inflow : (n : ℕ) → natAbs z * n ≡ inflow z n
+  pub is-inflow : (n : ℕ) → mAms (natAbs z * n) ≡ positiveTimes (mA z) (ms n)
   is-inflow n = go z positive
     where
-      go : (z : ℤ) → ltZ z (pos 0) ≡ false → natAbs z * n ≡ inflow z n
+      go : (z : ℤ) → ltZ z (pos 0) ≡ false → mAms (natAbs z * n) ≡ positiveTimes (mA z) (ms n)
       go (pos k) e = refl
       go (negsuc k) e = absurd (subst T e tt)
 

@@ -1,6 +1,7 @@
 // The contactor of a record, worked out when asked.
 ghost use mathlib.Core.Path.{_≡_};
-ghost use Rattle.step.specs.Close.{hasPassed, ready as readyOf, lifted as liftedOf, closes as closesOf, contactor as contactorOf};
+ghost use Rattle.rules.specs.Contactor.{stateAndCommand};
+ghost use Rattle.step.specs.Close.{hasPassed, lifted as liftedOf, closes as closesOf, contactor as contactorOf};
 use rules::battery::Live;
 use rules::battery::Record;
 use rules::calls::Command;
@@ -21,7 +22,7 @@ fn has_passed(t: TestResult) -> bool
 
 // State and command ask for power.
 fn ready(s: State, c: Command) -> bool
-    ensures { λ b. ⌜ b ≡ readyOf s c ⌝ }
+    ensures { λ b. ⌜ b ≡ stateAndCommand s c ⌝ }
 {
     match s {
         State::Unpowered => false,

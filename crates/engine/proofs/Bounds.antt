@@ -1,58 +1,46 @@
 -- What a sound record, and a command that is not refused, leave room for. Assumes nothing.
 use mathlib.Core.Path.{_≡_, refl, sym, subst}
-use mathlib.Core.Bool.{Bool, true, false}
-use Prim.Native.Nat.{ℕ, _*_, _≤_, _<_}
+use mathlib.Core.Bool.{Bool, true, false, not, cond}
+use Prim.Native.Nat.{ℕ, _≤_, _<_}
 use native.Mathlib.Omega.{arith}
-use borrow.Author.Tests.{ltb-true}
-use lib.Dec.{T, ltb, leb→le}
+use lib.Dec.{T, ltb, leb→le, ltb→lt}
 use Rattle.rules.specs.declared.units.Milliseconds.{Milliseconds}
 use Rattle.rules.specs.declared.states.State.{State}
-use Rattle.rules.specs.declared.states.State.the-variants.{Unpowered, Dormant, Operational, Maintenance}
 use Rattle.rules.specs.declared.calls.Command.{Command}
-use Rattle.rules.specs.declared.calls.Command.the-variants.{Automated, Open, ForceClosed}
 use Rattle.rules.specs.declared.calls.Event.the-variants.{ContactorCommand}
 use Rattle.rules.specs.declared.battery.Live.{Live}
+use Rattle.rules.specs.Quantities.{_<ms_, missionTime}
+use Rattle.rules.specs.States.{isPowered, commandIn, commandCeiling, commandAllowed}
+use Rattle.rules.specs.Refusals.{refusal}
+use Rattle.rules.specs.Soundness.{accountLimit}
 use Rattle.step.specs.Sound.{liveTests, soundLive}
-use Rattle.step.specs.Refusal.{belowCeiling, atCommand, refusalLive}
-use Rattle.step.proofs.Bools.{all-each}
+use Rattle.step.specs.Refusal.{refusalLive}
+use Rattle.step.proofs.Bools.{all-each, and-iff, is-true}
 
 -- 2,000,000 × the mission time
-pub accounts-by : (l : Live) → soundLive l ≡ true → (l .tally .charged .0 ≤ 691_200_000_000_000) × (l .tally .discharged .0 ≤ 691_200_000_000_000)
+pub accounts-by : (l : Live) → soundLive l ≡ true → (l .tally .charged .0 ≤ accountLimit missionTime .0) × (l .tally .discharged .0 ≤ accountLimit missionTime .0)
 unfolding soundLive
 accounts-by l e =
     let tests = all-each (liveTests l) .0 (subst T (sym e) tt) in
-    let last = leb→le (l .last .0) 345_600_000 (tests .1 .1 .0) in
-    let charged = leb→le (l .tally .charged .0) (2_000_000 * l .last .0) (tests .1 .1 .1 .0) in
-    let discharged = leb→le (l .tally .discharged .0) (2_000_000 * l .last .0) (tests .1 .1 .1 .1 .0) in
+    let last = leb→le (l .last .0) (missionTime .0) (tests .1 .1 .0) in
+    let charged = leb→le (l .tally .charged .0) (accountLimit (l .last) .0) (tests .1 .1 .1 .0) in
+    let discharged = leb→le (l .tally .discharged .0) (accountLimit (l .last) .0) (tests .1 .1 .1 .1 .0) in
     (omega arith, omega arith)
 
--- a command that is accepted finds the count below its ceiling
-below : (n : ℕ) → belowCeiling n ≡ 0 → n < 4_294_967_295
-below n h = go (ltb n 4_294_967_295) refl
-  where
-    go : (b : Bool) → ltb n 4_294_967_295 ≡ b → n < 4_294_967_295
-    go true e = ltb-true n 4_294_967_295 e
-    go false e = let no-way : _≡_ {A = ℕ} 10 0 = rw e at h in absurd (omega arith)
+-- a command that is allowed finds the count below its ceiling
+below : (s : State) (n : ℕ) (c : Command) → commandAllowed s n c ≡ true → n < commandCeiling
+below s n c h = ltb→lt n commandCeiling (and-iff (commandIn s c) (ltb n commandCeiling) .0 (is-true (commandAllowed s n c) .1 h) .1)
 
-at-command : (c : Command) (s : State) (n : ℕ) → atCommand c s n ≡ 0 → n < 4_294_967_295
-at-command Automated Unpowered n h = absurd (omega arith)
-at-command Automated Dormant n h = absurd (omega arith)
-at-command Automated Operational n h = below n h
-at-command Automated Maintenance n h = below n h
-at-command Open Unpowered n h = absurd (omega arith)
-at-command Open Dormant n h = absurd (omega arith)
-at-command Open Operational n h = below n h
-at-command Open Maintenance n h = below n h
-at-command ForceClosed Unpowered n h = absurd (omega arith)
-at-command ForceClosed Dormant n h = absurd (omega arith)
-at-command ForceClosed Operational n h = absurd (omega arith)
-at-command ForceClosed Maintenance n h = below n h
-
-pub commands-by : (l : Live) (t : Milliseconds) (c : Command) → refusalLive l (ContactorCommand t c) ≡ 0 → l .tally .commands < 4_294_967_295
-unfolding refusalLive
-commands-by l t c h = go (ltb (t .0) (l .last .0)) refl (ltb 345_600_000 (t .0)) refl
+-- and one that is accepted is allowed: the table's other rows do not let it pass
+pub commands-by : (l : Live) (t : Milliseconds) (c : Command) → refusalLive l (ContactorCommand t c) ≡ 0 → l .tally .commands < commandCeiling
+unfolding refusal
+commands-by l t c h =
+    go (t <ms l .last) (missionTime <ms t) (not (isPowered (l .control .state))) (commandAllowed (l .control .state) (l .tally .commands) c) refl h
   where
-    go : (a : Bool) → ltb (t .0) (l .last .0) ≡ a → (b : Bool) → ltb 345_600_000 (t .0) ≡ b → l .tally .commands < 4_294_967_295
-    go true e b f = let no-way : _≡_ {A = ℕ} 6 0 = rw e at h in absurd (omega arith)
-    go false e true f = let no-way : _≡_ {A = ℕ} 7 0 = rw (e, f) at h in absurd (omega arith)
-    go false e false f = at-command c (l .control .state) (l .tally .commands) (rw (e, f) at h)
+    go : (early late off allowed : Bool) → commandAllowed (l .control .state) (l .tally .commands) c ≡ allowed
+        → _≡_ {A = ℕ} (cond early 6 (cond late 7 (cond off 8 (cond (not allowed) 10 0)))) 0 → l .tally .commands < commandCeiling
+    go true late off allowed e z = absurd (omega arith)
+    go false true off allowed e z = absurd (omega arith)
+    go false false true allowed e z = absurd (omega arith)
+    go false false false false e z = absurd (omega arith)
+    go false false false true e z = below (l .control .state) (l .tally .commands) c e

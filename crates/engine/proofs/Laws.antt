@@ -9,6 +9,7 @@ use Rattle.rules.specs.declared.reading.Reading.{Reading}
 use Rattle.rules.specs.declared.tracking.ProtectionState.{ProtectionState}
 use Rattle.rules.specs.declared.units.Milliamperes.{Milliamperes}
 use Rattle.rules.specs.declared.units.Milliseconds.{Milliseconds}
+use Rattle.rules.specs.declared.units.Charge.{Charge}
 use Rattle.rules.specs.declared.calls.Event.{Event}
 use Rattle.rules.specs.declared.calls.Event.the-variants.{Measurement, PowerOn, PowerLoss, ContactorCommand, StateRequest, BattleOverride, ClearLongTerm}
 use Rattle.rules.specs.declared.tracking.Previous.{Previous}
@@ -18,10 +19,11 @@ use Rattle.rules.specs.declared.battery.Tally.{Tally}
 use Rattle.rules.specs.declared.battery.Live.{Live}
 use Rattle.rules.specs.declared.battery.Record.{Record}
 use Rattle.rules.specs.declared.answers.Outcome.{Outcome}
-use Rattle.rules.specs.Quantities.{ms}
+use Rattle.rules.specs.Quantities.{mAms, elapsed}
+use Rattle.rules.specs.Accounts.{positiveTimes, negativeTimes}
 use Rattle.step.specs.Sound.{soundLive, soundStores}
 use Rattle.step.specs.Refusal.{refusal, refusalLive}
-use Rattle.step.specs.Charge.{inflow, outflow, charge}
+use Rattle.step.specs.Charge.{charge}
 use Rattle.step.specs.Call.{advanceLive, advanceStores, advance, answer, call}
 use Rattle.step.specs.Push.{pushAll}
 use Rattle.protection.specs.Rows.{valuesOf}
@@ -33,12 +35,12 @@ use Rattle.engine.specs.Judging.{touches, judgedBy, judged, joined}
 -- ---- the accounts
 
 module _ (previous : Previous) (plausible : Bool) (t : Milliseconds) (n : Tally) where
-  pub charged : (start : Milliseconds) (i : Milliamperes) (d : Milliseconds) (a b : ℕ) → previous ≡ Frame start i → plausible ≡ true
-      → d ≡ ms (t .0 - start .0) → a ≡ inflow (i .0) (d .0) → b ≡ outflow (i .0) (d .0)
-      → _≡_ {A = Tally} (record { commands = n .commands; charged = record { 0 = n .charged .0 + a }; discharged = record { 0 = n .discharged .0 + b } })
+  pub charged : (start : Milliseconds) (i : Milliamperes) (d : Milliseconds) (a b : Charge) → previous ≡ Frame start i → plausible ≡ true
+      → d ≡ elapsed start t → a ≡ positiveTimes i d → b ≡ negativeTimes i d
+      → _≡_ {A = Tally} (record { commands = n .commands; charged = mAms (n .charged .0 + a .0); discharged = mAms (n .discharged .0 + b .0) })
       (charge previous plausible t n)
   unfolding charge
-  charged start i d a b e p d-is a-is b-is = rw (e, p, a-is, b-is, ap (λ (x : Milliseconds). x .0) d-is) refl
+  charged start i d a b e p d-is a-is b-is = rw (e, p, a-is, b-is, d-is) refl
 
   pub not-charged : (start : Milliseconds) (i : Milliamperes) → previous ≡ Frame start i → plausible ≡ false → n ≡ charge previous plausible t n
   unfolding charge

@@ -2,6 +2,9 @@
 ghost use mathlib.Core.Path.{_≡_};
 ghost use mathlib.Core.Bool.{true};
 ghost use Prim.Native.Nat.{_≤_, _<_};
+ghost use Rattle.rules.specs.Quantities.{missionTime};
+ghost use Rattle.rules.specs.States.{commandCeiling};
+ghost use Rattle.rules.specs.Soundness.{accountLimit};
 ghost use Rattle.step.specs.Sound.{soundLive};
 ghost use Rattle.step.specs.Refusal.{refusalLive};
 ghost use Rattle.step.specs.Charge.{charge as chargeOf};
@@ -19,7 +22,7 @@ use rules::units::Milliseconds;
 
 // The accounts of a sound record have room for what one measurement can add.
 fn charge(previous: Previous, plausible: bool, t: Milliseconds, n: Tally) -> Tally
-    requires { ⌜ (n .charged .0 ≤ 691_200_000_000_000) × (n .discharged .0 ≤ 691_200_000_000_000) ⌝ }
+    requires { ⌜ (n .charged .0 ≤ accountLimit missionTime .0) × (n .discharged .0 ≤ accountLimit missionTime .0) ⌝ }
     ensures { λ m. ⌜ m ≡ chargeOf previous plausible t n ⌝ }
 {
     match previous {
@@ -45,7 +48,7 @@ fn charge(previous: Previous, plausible: bool, t: Milliseconds, n: Tally) -> Tal
 }
 
 fn measure(t: Milliseconds, r: Reading, l: Live) -> Live
-    requires { ⌜ (l .tally .charged .0 ≤ 691_200_000_000_000) × (l .tally .discharged .0 ≤ 691_200_000_000_000) ⌝ }
+    requires { ⌜ (l .tally .charged .0 ≤ accountLimit missionTime .0) × (l .tally .discharged .0 ≤ accountLimit missionTime .0) ⌝ }
     ensures { λ n. ⌜ n ≡ measureLive t r l ⌝ }
 {
     let before = l.watch;
@@ -62,7 +65,7 @@ fn measure(t: Milliseconds, r: Reading, l: Live) -> Live
 }
 
 fn command(t: Milliseconds, c: Command, l: Live) -> Live
-    requires { ⌜ l .tally .commands < 4_294_967_295 ⌝ }
+    requires { ⌜ l .tally .commands < commandCeiling ⌝ }
     ensures { λ n. ⌜ n ≡ commandLive t c l ⌝ }
 {
     let old = l.control;

@@ -7,7 +7,7 @@ use native.Mathlib.Nat.{le-of-suc-le-suc, not-suc-le-zero, mul-le-mul, div-le-of
 use native.Mathlib.Omega.{arith}
 use borrow.Author.Tests.{ltb-true}
 use lib.Dec.{ltb, eqb}
-use lib.IntN.{ℤ, pos, negsuc, negℤ, _+ℤ_}
+use lib.IntN.{ℤ, pos, negsuc, natAbs, _+ℤ_}
 use lib.ListN.{length, getD, List·getD-map, List·getD-eq-default}
 use lib.Signed.{mag}
 use mir.Syntax.{w16, w32}
@@ -19,7 +19,7 @@ use Rattle.rules.specs.declared.units.Millivolts.{Millivolts}
 use Rattle.rules.specs.declared.reading.Reading.{Reading}
 use Rattle.rules.specs.declared.reading.Extremes.{Extremes}
 use Rattle.rules.specs.declared.units.Milliseconds.{Milliseconds}
-use Rattle.rules.specs.Quantities.{mV, mA, dC, _<mV_, _≤mV_, _<mA_, _≤mA_, _<dC_, _≤dC_, chargeRating, dischargeRating}
+use Rattle.rules.specs.Quantities.{mV, mA, dC, _<mV_, _≤mV_, _<mA_, _≤mA_, _<dC_, _≤dC_, sum, negated, chargeRating, dischargeRating}
 use Rattle.rules.specs.Protections.{Protection, table, protection, overvoltage, permittedAt, permitted, extremes}
 use Rattle.protection.specs.declared.Side.{Side}
 use Rattle.protection.specs.Rows.{sidesOf, valuesOf}
@@ -42,7 +42,7 @@ module _ (f : Protection → Milliseconds) (battery number : ℕ) where
 
 -- ---- the permitted charge current
 
-rating-by : (b : Bool) → cond b 90_000 60_000 ≤ 90_000
+rating-by : (b : Bool) → natAbs (cond b (mA (pos 90_000)) (mA (pos 60_000)) .0) ≤ 90_000
 rating-by true = omega arith
 rating-by false = omega arith
 
@@ -61,9 +61,9 @@ at-by rating (pos c) h = go (ltb c 250) refl
     go true e = curve-by rating c h (ltb-true c 250 e)
     go false e = h
 
-pub permitted-by : (battery : ℕ) (coldest : DeciCelsius) → permitted battery coldest ≤ 90_000
+pub permitted-by : (battery : ℕ) (coldest : DeciCelsius) → mag (permitted battery coldest .0) ≤ 90_000
 unfolding permitted
-permitted-by battery coldest = at-by (chargeRating battery) (coldest .0) (rating-by (eqb battery 3))
+permitted-by battery coldest = at-by (natAbs (chargeRating battery .0)) (coldest .0) (rating-by (eqb battery 3))
 
 -- ---- numbers that fit
 
@@ -89,8 +89,8 @@ sidesBy r e l d v =
     ∷ record { beyond = e .lowest <mV mV 1_700; within = mV 2_800 ≤mV e .lowest }
     ∷ record { beyond = dC (pos 710) <dC e .hottest; within = e .hottest ≤dC dC (pos 600) }
     ∷ record { beyond = (e .coldest <dC dC (pos 0)) && (mA (pos 500) <mA r .current); within = dC (pos 50) ≤dC e .coldest }
-    ∷ record { beyond = mA (l .0 +ℤ pos 2_000) <mA r .current; within = r .current ≤mA l }
-    ∷ record { beyond = r .current <mA mA (negℤ (pos 1_100_000)); within = d ≤mA r .current }
+    ∷ record { beyond = sum l (mA (pos 2_000)) <mA r .current; within = r .current ≤mA l }
+    ∷ record { beyond = r .current <mA negated (mA (pos 1_100_000)); within = d ≤mA r .current }
     ∷ record { beyond = r .current <mA d; within = d ≤mA r .current }
     ∷ record { beyond = mV 500 <mV v; within = v ≤mV mV 300 }
     ∷ []
@@ -100,14 +100,14 @@ valuesBy r e v =
     pos (e .highest .0) ∷ pos (e .lowest .0) ∷ e .hottest .0 ∷ e .coldest .0 ∷ r .current .0 ∷ r .current .0 ∷ r .current .0 ∷ pos (v .0) ∷ []
 
 module _ (battery : ℕ) (r : Reading) (e : Extremes) (e-is : e ≡ extremes r) (v : Millivolts) (v-is : v ≡ mV (e .highest .0 - e .lowest .0)) where
-  pub sides-are : (l d : Milliamperes) → l ≡ mA (pos (permitted battery (e .coldest))) → d ≡ mA (negℤ (pos (dischargeRating battery)))
+  pub sides-are : (l d : Milliamperes) → l ≡ permitted battery (e .coldest) → d ≡ negated (dischargeRating battery)
       → sidesBy r e l d v ≡ sidesOf battery r
   unfolding sidesOf protection
   sides-are l d l-is d-is =
       ap (λ (x : Millivolts). sidesBy r e l d x) v-is
       ∙ ap (λ (x : Milliamperes). sidesBy r e l x (mV (e .highest .0 - e .lowest .0))) d-is
-      ∙ ap (λ (x : Milliamperes). sidesBy r e x (mA (negℤ (pos (dischargeRating battery)))) (mV (e .highest .0 - e .lowest .0))) l-is
-      ∙ ap (λ (x : Extremes). sidesBy r x (mA (pos (permitted battery (x .coldest)))) (mA (negℤ (pos (dischargeRating battery)))) (mV (x .highest .0 - x .lowest .0))) e-is
+      ∙ ap (λ (x : Milliamperes). sidesBy r e x (negated (dischargeRating battery)) (mV (e .highest .0 - e .lowest .0))) l-is
+      ∙ ap (λ (x : Extremes). sidesBy r x (permitted battery (x .coldest)) (negated (dischargeRating battery)) (mV (x .highest .0 - x .lowest .0))) e-is
 
   pub values-are : valuesBy r e v ≡ valuesOf battery r
   unfolding valuesOf protection

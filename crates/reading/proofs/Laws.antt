@@ -10,9 +10,11 @@ use lib.Dec.{T, eqb}
 use lib.IntN.{ℤ, pos, negsuc, natAbs}
 use lib.Signed.{ltZ, nonNeg}
 use mir.Syntax.{w32}
-use mir.Val.{toZ}
+use mir.Val.{toZ, ofZ}
 use mir.Facts.{toZ-pos}
+use Rattle.rules.specs.declared.units.Milliamperes.{Milliamperes}
 use Rattle.rules.specs.declared.reading.Reading.{Reading}
+use Rattle.rules.specs.Quantities.{mA, chargeRating}
 use Rattle.rules.specs.Test.{inRange, all, plausible, maskOf, failedMask}
 use Rattle.rules.specs.Protections.{picked, permittedAt}
 
@@ -66,6 +68,19 @@ below-250 rating (negsuc n) e h = absurd (subst T e tt)
 pub from-250 : (rating : ℕ) (c : ℤ) → ltZ c (pos 0) ≡ false → 250 ≤ natAbs c → rating ≡ permittedAt rating c
 from-250 rating (pos n) e h = rw (le-ltb n 250 h)
 from-250 rating (negsuc n) e h = absurd (subst T e tt)
+
+-- a rating as the code reads it: a figure above 0, of at most 90,000 mA
+pub record Rated (rating : Milliamperes) : Type 0 where
+  pub whole : rating ≡ mA (pos (natAbs (rating .0)))
+  pub read : toZ w32 (ofZ w32 (rating .0)) ≡ pos (natAbs (rating .0))
+  pub small : natAbs (rating .0) ≤ 90_000
+
+rated-by : (b : Bool) → Rated (cond b (mA (pos 90_000)) (mA (pos 60_000)))
+rated-by true = record { whole = refl; read = refl; small = omega arith }
+rated-by false = record { whole = refl; read = refl; small = omega arith }
+
+pub rated : (battery : ℕ) (rating : Milliamperes) → rating ≡ chargeRating battery → Rated rating
+rated battery rating is = rw is (rated-by (eqb battery 3))
 
 -- what is divided is small enough
 pub curve-small : (rating n : ℕ) → rating ≤ 90_000 → n < 250 → rating * ((n + 50) * (n + 50)) ≤ 90_000 * 90_000

@@ -4,8 +4,7 @@ ghost use mathlib.Core.List.{[], _∷_};
 ghost use mathlib.Core.Path.{_≡_};
 ghost use Prim.Native.Nat.{_≤_};
 ghost use lib.Count.{ones};
-ghost use lib.IntN.{pos};
-ghost use Rattle.rules.specs.Quantities.{mA, chargeRating};
+ghost use Rattle.rules.specs.Quantities.{chargeRating};
 ghost use Rattle.rules.specs.Test.{cellInRange, currentInRange, temperatureInRange, plausible, maskOf, failedMask};
 ghost use Rattle.rules.specs.Protections.{higher, lower, hotter, colder, picked, extremes, permitted};
 ghost use Rattle.reading.specs.Ranges.{extremesInRange};
@@ -191,15 +190,18 @@ pub fn plausible(r: Reading) -> bool
 
 // ---- the permitted charge current
 
-fn charge_rating(battery: u8) -> u32
-    ensures is { λ r. ⌜ r ≡ chargeRating battery ⌝ }
-    ensures small { λ r. ⌜ r ≤ 90_000 ⌝ }
+fn charge_rating(battery: u8) -> Milliamperes
+    ensures { λ r. ⌜ r ≡ chargeRating battery ⌝ }
 {
-    if battery == 3 { 90000 } else { 60000 }
+    if battery == 3 {
+        Milliamperes(90_000)
+    } else {
+        Milliamperes(60_000)
+    }
 }
 
 pub fn permitted(battery: u8, coldest: DeciCelsius) -> Milliamperes
-    ensures { λ r. ⌜ r ≡ mA (pos (permitted battery coldest)) ⌝ }
+    ensures { λ r. ⌜ r ≡ permitted battery coldest ⌝ }
 {
     let rating = charge_rating(battery);
     let c = coldest.0;
@@ -209,7 +211,7 @@ pub fn permitted(battery: u8, coldest: DeciCelsius) -> Milliamperes
     let n = c as u64;
     if n < 250 {
         let k = n + 50;
-        return Milliamperes(((rating as u64) * (k * k) / 90000) as i32);
+        return Milliamperes(((rating.0 as u64) * (k * k) / 90_000) as i32);
     }
-    Milliamperes(rating as i32)
+    rating
 }

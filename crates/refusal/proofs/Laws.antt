@@ -1,21 +1,29 @@
 -- The refusal as the code goes through it. Assumes nothing.
 use mathlib.Core.Path.{_≡_}
+use mathlib.Core.Bool.{cond}
 use Prim.Native.Nat.{ℕ, _≤_, _<_}
 use borrow.Author.Tests.{lt-ltb, le-ltb}
 use Rattle.rules.specs.declared.units.Milliseconds.{Milliseconds}
 use Rattle.rules.specs.declared.calls.Event.{Event}
 use Rattle.rules.specs.declared.battery.Live.{Live}
-use Rattle.step.specs.Refusal.{timeOf, byState, refusalLive}
+use Rattle.rules.specs.Quantities.{missionTime}
+use Rattle.rules.specs.Calls.{timeOf}
+use Rattle.rules.specs.Refusals.{misplaced, requestBarred, otherBarred, refusal}
 
 module _ (l : Live) (e : Event) (t : Milliseconds) (is : t ≡ timeOf e) where
-  pub early : t .0 < l .last .0 → 6 ≡ refusalLive l e
-  unfolding refusalLive
+  abbrev answer : ℕ
+  answer = refusal (l .control .state) (l .last) (l .tally .commands) e
+
+  pub early : t .0 < l .last .0 → 6 ≡ answer
+  unfolding refusal
   early h = simp (← is, lt-ltb (t .0) (l .last .0) h)
 
-  pub late : l .last .0 ≤ t .0 → 345_600_000 < t .0 → 7 ≡ refusalLive l e
-  unfolding refusalLive
-  late h k = simp (← is, le-ltb (t .0) (l .last .0) h, lt-ltb 345_600_000 (t .0) k)
+  pub late : l .last .0 ≤ t .0 → missionTime .0 < t .0 → 7 ≡ answer
+  unfolding refusal
+  late h k = simp (← is, le-ltb (t .0) (l .last .0) h, lt-ltb (missionTime .0) (t .0) k)
 
-  pub in-time : l .last .0 ≤ t .0 → t .0 ≤ 345_600_000 → (n : ℕ) → n ≡ byState (l .control .state) (l .tally .commands) e → n ≡ refusalLive l e
-  unfolding refusalLive
-  in-time h k n b = simp (← is, le-ltb (t .0) (l .last .0) h, le-ltb 345_600_000 (t .0) k, b)
+  pub in-time : l .last .0 ≤ t .0 → t .0 ≤ missionTime .0 → (n : ℕ)
+      → n ≡ cond (misplaced (l .control .state) e) 8 (cond (requestBarred (l .control .state) e) 9 (cond (otherBarred (l .control .state) (l .tally .commands) e) 10 0))
+      → n ≡ answer
+  unfolding refusal
+  in-time h k n b = simp (← is, le-ltb (t .0) (l .last .0) h, le-ltb (missionTime .0) (t .0) k, b)

@@ -1,6 +1,10 @@
-// The refusal of a call on a sound record.
+// The refusal of a call on a sound record: document 01's table, row by row.
 ghost use mathlib.Core.Path.{_≡_};
-ghost use Rattle.step.specs.Refusal.{timeOf, atPowerOn, whilePowered, belowCeiling, atForceClosed, atAutomatedOrOpen, atCommand, atRequest, atOverride, atClear, byState, refusalLive};
+ghost use mathlib.Core.Bool.{not, cond};
+ghost use lib.Dec.{ltb};
+ghost use Rattle.rules.specs.Calls.{timeOf};
+ghost use Rattle.rules.specs.States.{isPowered, requestAllowed, commandCeiling, commandAllowed, overrideAllowed, clearAllowed};
+ghost use Rattle.rules.specs.Refusals.{misplaced, requestBarred, otherBarred, refusal as refusalByTable};
 use rules::battery::Live;
 use rules::calls::Command;
 use rules::calls::Event;
@@ -38,7 +42,7 @@ fn time_of(e: Event) -> Milliseconds
 }
 
 fn at_power_on(s: State) -> u8
-    ensures { λ r. ⌜ r ≡ atPowerOn s ⌝ }
+    ensures { λ r. ⌜ r ≡ cond (isPowered s) 8 0 ⌝ }
 {
     match s {
         State::Unpowered => 0,
@@ -50,7 +54,7 @@ fn at_power_on(s: State) -> u8
 
 // A measurement or a power loss.
 fn while_powered(s: State) -> u8
-    ensures { λ r. ⌜ r ≡ whilePowered s ⌝ }
+    ensures { λ r. ⌜ r ≡ cond (not (isPowered s)) 8 0 ⌝ }
 {
     match s {
         State::Unpowered => WRONG_POWER,
@@ -61,7 +65,7 @@ fn while_powered(s: State) -> u8
 }
 
 fn below_ceiling(commands: u32) -> u8
-    ensures { λ r. ⌜ r ≡ belowCeiling commands ⌝ }
+    ensures { λ r. ⌜ r ≡ cond (not (ltb commands commandCeiling)) 10 0 ⌝ }
 {
     if commands < COMMAND_CEILING {
         0
@@ -71,7 +75,7 @@ fn below_ceiling(commands: u32) -> u8
 }
 
 fn at_force_closed(s: State, commands: u32) -> u8
-    ensures { λ r. ⌜ r ≡ atForceClosed s commands ⌝ }
+    ensures { λ r. ⌜ r ≡ cond (not (isPowered s)) 8 (cond (not (commandAllowed s commands Command.ForceClosed)) 10 0) ⌝ }
 {
     match s {
         State::Unpowered => WRONG_POWER,
@@ -82,7 +86,8 @@ fn at_force_closed(s: State, commands: u32) -> u8
 }
 
 fn at_automated_or_open(s: State, commands: u32) -> u8
-    ensures { λ r. ⌜ r ≡ atAutomatedOrOpen s commands ⌝ }
+    ensures automated { λ r. ⌜ r ≡ cond (not (isPowered s)) 8 (cond (not (commandAllowed s commands Command.Automated)) 10 0) ⌝ }
+    ensures open { λ r. ⌜ r ≡ cond (not (isPowered s)) 8 (cond (not (commandAllowed s commands Command.Open)) 10 0) ⌝ }
 {
     match s {
         State::Unpowered => WRONG_POWER,
@@ -93,7 +98,7 @@ fn at_automated_or_open(s: State, commands: u32) -> u8
 }
 
 fn at_command(c: Command, s: State, commands: u32) -> u8
-    ensures { λ r. ⌜ r ≡ atCommand c s commands ⌝ }
+    ensures { λ r. ⌜ r ≡ cond (not (isPowered s)) 8 (cond (not (commandAllowed s commands c)) 10 0) ⌝ }
 {
     match c {
         Command::Automated => at_automated_or_open(s, commands),
@@ -103,7 +108,7 @@ fn at_command(c: Command, s: State, commands: u32) -> u8
 }
 
 fn at_request(q: Request, s: State) -> u8
-    ensures { λ r. ⌜ r ≡ atRequest q s ⌝ }
+    ensures { λ r. ⌜ r ≡ cond (not (isPowered s)) 8 (cond (not (requestAllowed s q)) 9 0) ⌝ }
 {
     match q {
         Request::Dormant => match s {
@@ -128,7 +133,7 @@ fn at_request(q: Request, s: State) -> u8
 }
 
 fn at_override(s: State) -> u8
-    ensures { λ r. ⌜ r ≡ atOverride s ⌝ }
+    ensures { λ r. ⌜ r ≡ cond (not (isPowered s)) 8 (cond (not (overrideAllowed s)) 10 0) ⌝ }
 {
     match s {
         State::Unpowered => WRONG_POWER,
@@ -139,7 +144,7 @@ fn at_override(s: State) -> u8
 }
 
 fn at_clear(s: State) -> u8
-    ensures { λ r. ⌜ r ≡ atClear s ⌝ }
+    ensures { λ r. ⌜ r ≡ cond (not (isPowered s)) 8 (cond (not (clearAllowed s)) 10 0) ⌝ }
 {
     match s {
         State::Unpowered => WRONG_POWER,
@@ -149,8 +154,9 @@ fn at_clear(s: State) -> u8
     }
 }
 
+// Rows 8 to 10.
 fn by_state(s: State, commands: u32, e: Event) -> u8
-    ensures { λ r. ⌜ r ≡ byState s commands e ⌝ }
+    ensures { λ r. ⌜ r ≡ cond (misplaced s e) 8 (cond (requestBarred s e) 9 (cond (otherBarred s commands e) 10 0)) ⌝ }
 {
     match e {
         Event::Measurement(_, _) => while_powered(s),
@@ -165,7 +171,7 @@ fn by_state(s: State, commands: u32, e: Event) -> u8
 
 // 0 for a call that is not refused.
 pub fn refusal(l: Live, e: Event) -> u8
-    ensures { λ r. ⌜ r ≡ refusalLive l e ⌝ }
+    ensures { λ r. ⌜ r ≡ refusalByTable (l .control .state) (l .last) (l .tally .commands) e ⌝ }
 {
     let t = time_of(e);
     let last = l.last;

@@ -6,13 +6,13 @@ use Prim.Native.Nat.{ℕ, _+_, _/_, _%_, _^_, _<_}
 use native.Mathlib.Nat.{le-add-right}
 use native.Mathlib.Omega.{arith}
 use lib.Dec.{T, leb→le, le→leb, eqb}
-use lib.IntN.{ℤ, pos, negℤ}
+use lib.IntN.{ℤ, pos, natAbs}
 use lib.Signed.{ltZ, leZ, ltZ-yes, leZ-yes, <ℤ-≤ℤ-trans, clashℤ, ≤ℤ-refl}
 use lib.ListN.{getD, List·getD-map}
 use mir.Facts.{and-yes}
 use Rattle.rules.specs.declared.reading.Reading.{Reading}
-use Rattle.rules.specs.Quantities.{mA, dC, _<mA_, _<dC_, dischargeRating}
-use Rattle.rules.specs.Protections.{Protection, overvoltage, undervoltage, overtemperature, coldCharge, chargeOvercurrent, shortCircuit, dischargeOvercurrent, imbalance, hottest, coldest, permitted, table, protection}
+use Rattle.rules.specs.Quantities.{mA, dC, _<mA_, _≤mA_, _<dC_, negated, chargeRating, dischargeRating}
+use Rattle.rules.specs.Protections.{Protection, overvoltage, undervoltage, overtemperature, coldCharge, chargeOvercurrent, shortCircuit, dischargeOvercurrent, imbalance, hottest, coldest, permittedAt, permitted, table, protection}
 use Rattle.rules.proofs.Each.{Each, none, _and_, at-index}
 use Rattle.rules.proofs.Mask.{bit-of}
 
@@ -58,21 +58,22 @@ coldCharge-apart r b =
     below (pos 0) (pos 50) (coldest r .0) tt (and-yes (coldest r <dC dC (pos 0)) (mA (pos 500) <mA r .current) b .0)
 
 chargeOvercurrent-apart : (battery : ℕ) → Apart (chargeOvercurrent battery)
+unfolding permitted
 chargeOvercurrent-apart battery r =
-    let L = permitted battery (coldest r) in
+    let L = permittedAt (natAbs (chargeRating battery .0)) (coldest r .0) in
     above (pos (L + 2_000)) (pos L) (r .current .0) (le→leb L (L + 2_000) (le-add-right L 2_000))
 
 -- -1,100,000 mA is past -D for either D
-past-rating : (b : Bool) → T (leZ (negℤ (pos 1_100_000)) (negℤ (pos (cond b 180_000 120_000))))
+past-rating : (b : Bool) → T (negated (mA (pos 1_100_000)) ≤mA negated (cond b (mA (pos 180_000)) (mA (pos 120_000))))
 past-rating true = tt
 past-rating false = tt
 
 shortCircuit-apart : (battery : ℕ) → Apart (shortCircuit battery)
-shortCircuit-apart battery r = below (negℤ (pos 1_100_000)) (negℤ (pos (dischargeRating battery))) (r .current .0) (past-rating (eqb battery 3))
+shortCircuit-apart battery r = below (negated (mA (pos 1_100_000)) .0) (negated (dischargeRating battery) .0) (r .current .0) (past-rating (eqb battery 3))
 
 dischargeOvercurrent-apart : (battery : ℕ) → Apart (dischargeOvercurrent battery)
 dischargeOvercurrent-apart battery r =
-    let limit = negℤ (pos (dischargeRating battery)) in
+    let limit = negated (dischargeRating battery) .0 in
     below limit limit (r .current .0) (≤ℤ-refl limit .le)
 
 imbalance-apart : Apart imbalance

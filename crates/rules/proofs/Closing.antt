@@ -54,7 +54,7 @@ each-below test (suc n) =
 passed-is : (taken : List Measured) → T (eqb (testOf taken) 1) ↔ (testOf taken ≡ 1)
 passed-is taken = (λ h. eqb-true (testOf taken) 1 (is-on (eqb (testOf taken) 1) .0 h), λ e. rw e tt)
 
-settings-are : (l : Ledger) → T (stateAndCommand (l .state) (l .command)) ↔ StateAndCommand l
+pub settings-are : (l : Ledger) → T (stateAndCommand (l .state) (l .command)) ↔ StateAndCommand l
 settings-are l = (to (l .state) refl (l .command) refl, from)
   where
     to : (s : State) → l .state ≡ s → (c : Command) → l .command ≡ c → T (stateAndCommand s c) → StateAndCommand l

@@ -1,18 +1,18 @@
 -- The bench examples: one theorem over all rows of specs/Examples. A row of frames is decided by two sessions, those of the mildest and
 -- of the severest readings that meet its conditions: every other session that meets them lies between the two.
-use mathlib.Core.Path.{_≡_, refl, sym, subst, _∙_}
+use mathlib.Core.Path.{_≡_, refl, sym, ap, subst, _∙_}
 use mathlib.Core.Logic.{inl, inr}
 use mathlib.Core.Bool.{Bool, true, false, not, _&&_, _||_}
 use mathlib.Core.List.{List, [], _∷_, map, reverseAux, Forall₂, Forall₂·nil, Forall₂·cons}
 use Prim.Native.Nat.{ℕ, _+_, _≤_, _<_}
 use native.Mathlib.Omega.{arith}
 use lib.Dec.{T, T-not, not-T, leb, leb→le, le→leb, eqb, eqb→eq}
-use lib.IntN.{ℤ, pos, negℤ}
+use lib.IntN.{ℤ, pos, natAbs}
 use lib.Signed.{leZ, ltZ, leZ-yes, ltZ-yes, ltZ-no, <ℤ-≤ℤ-trans, clashℤ}
 use lib.ListN.{length, getD}
 use mir.Facts.{and-yes, or-yes}
 use Rattle.rules.specs.declared.reading.Reading.{Reading}
-use Rattle.rules.specs.Quantities.{ms, dC, dischargeRating, missionTime}
+use Rattle.rules.specs.Quantities.{mA, ms, dC, mAms, negated, dischargeRating, missionTime}
 use Rattle.rules.specs.Test.{plausible, all}
 use Rattle.rules.specs.Protections.{permitted, extremes, overvoltage, protection}
 use Rattle.rules.specs.Trips.{Measured, time, isTripped}
@@ -98,8 +98,8 @@ unfolding protection
 follows battery number h = elim (or-yes (eqb number 0) (eqb number 5 || eqb number 6) h) [
   | inl is ↦ subst (λ (n : ℕ). Follows (protection battery n)) (sym (eqb→eq number 0 is)) overvoltage-follows
   | inr rest ↦ elim (or-yes (eqb number 5) (eqb number 6) rest) [
-    | inl is ↦ subst (λ (n : ℕ). Follows (protection battery n)) (sym (eqb→eq number 5 is)) (λ r q up. by-current (negℤ (pos 1_100_000)) (negℤ (pos (dischargeRating battery))) r q)
-    | inr is ↦ subst (λ (n : ℕ). Follows (protection battery n)) (sym (eqb→eq number 6 is)) (λ r q up. by-current (negℤ (pos (dischargeRating battery))) (negℤ (pos (dischargeRating battery))) r q)
+    | inl is ↦ subst (λ (n : ℕ). Follows (protection battery n)) (sym (eqb→eq number 5 is)) (λ r q up. by-current (negated (mA (pos 1_100_000)) .0) (negated (dischargeRating battery) .0) r q)
+    | inr is ↦ subst (λ (n : ℕ). Follows (protection battery n)) (sym (eqb→eq number 6 is)) (λ r q up. by-current (negated (dischargeRating battery) .0) (negated (dischargeRating battery) .0) r q)
   ]
 ]
 
@@ -119,7 +119,7 @@ abbrev usable : List Frame → Bool
 usable frames = inOrder 0 frames && all (map (λ f. atEnds (f .reads)) frames)
 
 abbrev decided : Row → Bool
-decided (permits battery coldest current) = eqb (permitted battery (dC coldest)) current
+decided (permits battery coldest current) = eqb (natAbs (permitted battery (dC coldest) .0)) current
 decided (leaves types frames number outcome) = usable frames && (followed number && all (map (leavesAtEnd frames number outcome) types))
 decided (charges frames amount) =
     usable frames && (eqb (total [] (map (modelled mildest) frames)) amount && eqb (total [] (map (modelled severest) frames)) amount)
@@ -145,12 +145,13 @@ module _ (frames : List Frame) (u : T (usable frames)) (start : ℕ) (taken : Li
       (is-tripped p (reverseAux taken []) .0 (tripped-milder p (follows battery number f) start 0 (reversed (above start ends meets) Forall₂·nil) h))
 
   charges-as : (amount : ℕ) → total [] (map (modelled mildest) frames) ≡ amount → total [] (map (modelled severest) frames) ≡ amount
-      → charged (accepted (session taken)) ≡ amount
+      → charged (accepted (session taken)) ≡ mAms amount
   charges-as amount most least =
-      charged-in taken in-time ∙ omega (arith, total-milder start 0 Forall₂·nil (above start ends meets), total-milder 0 start Forall₂·nil (below start ends meets), most, least)
+      ap mAms (charged-in taken in-time ∙ omega (arith, total-milder start 0 Forall₂·nil (above start ends meets), total-milder 0 start Forall₂·nil (below start ends meets), most, least))
 
 holds : (row : Row) → T (decided row) → Holds row
-holds (permits battery coldest current) h = eqb→eq (permitted battery (dC coldest)) current h
+unfolding permitted
+holds (permits battery coldest current) h = ap (λ (n : ℕ). mA (pos n)) (eqb→eq (natAbs (permitted battery (dC coldest) .0)) current h)
 holds (leaves types frames number outcome) h = λ battery m start taken meets.
     let b = and-yes (usable frames) (followed number && all (map (leavesAtEnd frames number outcome) types)) h in
     let c = and-yes (followed number) (all (map (leavesAtEnd frames number outcome) types)) (b .1) in
@@ -173,12 +174,12 @@ framesOf (leaves types frames number outcome) = frames
 framesOf (charges frames amount) = frames
 
 abbrev meetable : Frame → Bool
-meetable f = atEnds (f .reads) && leb (f .at) missionTime
+meetable f = atEnds (f .reads) && leb (f .at) (missionTime .0)
 
 meets-mildest : (f : Frame) → T (meetable f) → Meets 0 f (modelled mildest f)
 meets-mildest f h =
-    let b = and-yes (atEnds (f .reads)) (leb (f .at) missionTime) h in
-    record { at = omega arith; inMission = leb→le (f .at) missionTime (b .1); reads = mildest-meets (f .reads) (b .0) }
+    let b = and-yes (atEnds (f .reads)) (leb (f .at) (missionTime .0)) h in
+    record { at = omega arith; inMission = leb→le (f .at) (missionTime .0) (b .1); reads = mildest-meets (f .reads) (b .0) }
 
 meet-mildest : {frames : List Frame} → Each (λ f. T (meetable f)) frames → Forall₂ (Meets 0) frames (map (modelled mildest) frames)
 meet-mildest none = Forall₂·nil

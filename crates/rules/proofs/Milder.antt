@@ -7,15 +7,16 @@ use mathlib.Core.List.{List, _∷_, Forall₂, Forall₂·nil, Forall₂·cons}
 use Prim.Native.Nat.{ℕ, _+_, _-_, _≤_, zero-le}
 use native.Mathlib.Nat.{mul-le-mul-right, add-le-add}
 use native.Mathlib.Omega.{arith}
-use lib.Dec.{T, leb, leb→le}
+use lib.Dec.{T, leb→le}
 use lib.IntN.{ℤ, pos, negsuc}
 use lib.Signed.{leZ}
 use Rattle.rules.specs.declared.units.Milliseconds.{Milliseconds}
 use Rattle.rules.specs.declared.reading.Reading.{Reading}
+use Rattle.rules.specs.Quantities.{_≤ms_, elapsed}
 use Rattle.rules.specs.Test.{plausible}
 use Rattle.rules.specs.Protections.{Protection, highest}
 use Rattle.rules.specs.Trips.{Measured, time, passes, reaches, endsNow, isTripped}
-use Rattle.rules.specs.Accounts.{positiveTimes, joins}
+use Rattle.rules.specs.Accounts.{positivePart, positiveTimes, joins}
 use Rattle.rules.proofs.Spans.{kept-or-new}
 use Rattle.rules.proofs.Decide.{and-or}
 use Rattle.rules.proofs.Sessions.{total}
@@ -49,18 +50,18 @@ module _ (test : Reading → Bool) (start begin : ℕ) where
   abbrev Carries : Measured → Measured → Type 0
   Carries m n = (start + time m ≡ begin + time n) × (T (passes test m) → T (passes test n))
 
-  reaches-carried : {ms ns : List Measured} (d t u : ℕ) → start + t ≡ begin + u → Forall₂ Carries ms ns → T (reaches test d t ms) → T (reaches test d u ns)
+  reaches-carried : {ms ns : List Measured} (d t u : Milliseconds) → start + t .0 ≡ begin + u .0 → Forall₂ Carries ms ns → T (reaches test d t ms) → T (reaches test d u ns)
   reaches-carried d t u e Forall₂·nil h = h
   reaches-carried d t u e (Forall₂·cons {a = m} {b = n} {l₁ = ms} {l₂ = ns} c cs) h =
-      let same : u - time n ≡ t - time m = omega (arith, e, c .0) in
+      let same : u .0 - time n ≡ t .0 - time m = omega (arith, e, c .0) in
       let rest : T (reaches test d t ms) → T (reaches test d u ns) = reaches-carried d t u e cs in
-      let held = and-or (passes test m) (leb d (t - time m)) (reaches test d t ms) Iff·rfl .0 h in
-      and-or (passes test n) (leb d (u - time n)) (reaches test d u ns) Iff·rfl .1
+      let held = and-or (passes test m) (d ≤ms elapsed (m .at) t) (reaches test d t ms) Iff·rfl .0 h in
+      and-or (passes test n) (d ≤ms elapsed (n .at) u) (reaches test d u ns) Iff·rfl .1
       (c .1 (held .0), elim (held .1) [ inl x ↦ inl (rw same x) | inr x ↦ inr (rest x) ])
 
   ends-carried : {ms ns : List Measured} (d : Milliseconds) → Forall₂ Carries ms ns → T (endsNow test d ms) → T (endsNow test d ns)
   ends-carried d Forall₂·nil h = h
-  ends-carried d (Forall₂·cons {a = m} {b = n} c cs) h = reaches-carried (d .0) (time m) (time n) (c .0) (Forall₂·cons c cs) h
+  ends-carried d (Forall₂·cons {a = m} {b = n} c cs) h = reaches-carried d (m .at) (n .at) (c .0) (Forall₂·cons c cs) h
 
 -- ---- tripped
 both : (a b c d : Bool) → a ≡ c → (T a → T b → T d) → T (a && b) → T (c && d)
@@ -96,10 +97,10 @@ module _ (p : Protection) (follows : Follows p) (start begin : ℕ) where
       (elim held [ inl y ↦ inl (trips y) | inr y ↦ inr (before (y .0), λ w. y .1 (releases w)) ])
 
 -- ---- charged
-positive-le : (j i : ℤ) (elapsed : ℕ) → T (leZ j i) → positiveTimes j elapsed ≤ positiveTimes i elapsed
-positive-le (pos j) (pos i) elapsed h = mul-le-mul-right elapsed (leb→le j i h)
-positive-le (pos j) (negsuc i) elapsed h = absurd h
-positive-le (negsuc j) i elapsed h = zero-le
+positive-le : (j i : ℤ) → T (leZ j i) → positivePart j ≤ positivePart i
+positive-le (pos j) (pos i) h = leb→le j i h
+positive-le (pos j) (negsuc i) h = absurd h
+positive-le (negsuc j) i h = zero-le
 
 cond-le : (a b : Bool) {x y : ℕ} → (T a → y ≤ x) → cond (a && b) y 0 ≤ cond (a && b) x 0
 cond-le true true f = f tt
@@ -108,13 +109,13 @@ cond-le false b f = zero-le
 
 module _ (start begin : ℕ) where
   joins-milder : {before past : List Measured} → Forall₂ (Milder start begin) before past → (m n : Measured) → Milder start begin m n
-      → joins positiveTimes past n ≤ joins positiveTimes before m
+      → joins positiveTimes past n .0 ≤ joins positiveTimes before m .0
   joins-milder Forall₂·nil m n x = zero-le
   joins-milder (Forall₂·cons {a = e} {b = f} y ys) m n x =
       let same : time n - time f ≡ time m - time e = omega (arith, x .times, y .times) in
       rw (← (x .readings .alike), ← (y .readings .alike), same)
       (cond-le (plausible (e .reading)) (plausible (m .reading))
-      (λ ok. positive-le (f .reading .current .0) (e .reading .current .0) (time m - time e) (y .readings .current ok)))
+      (λ ok. mul-le-mul-right (time m - time e) (positive-le (f .reading .current .0) (e .reading .current .0) (y .readings .current ok))))
 
   pub total-milder : {before past ms ns : List Measured} → Forall₂ (Milder start begin) before past → Forall₂ (Milder start begin) ms ns
       → total past ns ≤ total before ms

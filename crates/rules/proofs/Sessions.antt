@@ -16,17 +16,17 @@ use Rattle.rules.specs.Examples.{measurements, session}
 
 abbrev pub Timely : ℕ → List Measured → Type 0
 Timely last [] = Unit {0}
-Timely last (m ∷ later) = (last ≤ time m) × (time m ≤ missionTime) × Timely (time m) later
+Timely last (m ∷ later) = (last ≤ time m) × (time m ≤ missionTime .0) × Timely (time m) later
 
 -- what each measurement charges with the one before it, the first of them with those before
 abbrev pub total : List Measured → List Measured → ℕ
 total past [] = 0
-total past (m ∷ later) = joins positiveTimes past m + total (m ∷ past) later
+total past (m ∷ later) = joins positiveTimes past m .0 + total (m ∷ past) later
 
 module _ (l : Ledger) (powered : isPowered (l .state) ≡ true) where
-  accepts : (m : Measured) → l .last .0 ≤ time m → time m ≤ missionTime → refused l (Measurement (m .at) (m .reading)) ≡ 0
+  accepts : (m : Measured) → l .last .0 ≤ time m → time m ≤ missionTime .0 → refused l (Measurement (m .at) (m .reading)) ≡ 0
   unfolding refusal
-  accepts m from to = rw (le-ltb (time m) (l .last .0) from, le-ltb missionTime (time m) to, powered)
+  accepts m from to = rw (le-ltb (time m) (l .last .0) from, le-ltb (missionTime .0) (time m) to, powered)
 
 measured-from : (l : Ledger) → isPowered (l .state) ≡ true → (taken : List Measured) → Timely (l .last .0) taken
     → ledgerFrom l (measurements taken) .measured ≡ reverseAux taken (l .measured)
@@ -37,14 +37,14 @@ measured-from l powered (m ∷ later) t =
     ∙ measured-from (accept l e) powered later (t .2)
 
 charged-from : (l : Ledger) → isPowered (l .state) ≡ true → (past : List Accepted) (taken : List Measured) → Timely (l .last .0) taken
-    → charged (acceptedFrom l past (measurements taken)) ≡ charged past + total (l .measured) taken
-charged-from l powered past [] t = sym (add-zero (charged past))
+    → charged (acceptedFrom l past (measurements taken)) .0 ≡ charged past .0 + total (l .measured) taken
+charged-from l powered past [] t = sym (add-zero (charged past .0))
 charged-from l powered past (m ∷ later) t =
     let e = Measurement (m .at) (m .reading) in
-    ap (λ (n : ℕ). charged (acceptedFrom (ifAccepted n (accept l e) l) (ifAccepted n (entered l e ∷ past) past) (measurements later)))
+    ap (λ (n : ℕ). charged (acceptedFrom (ifAccepted n (accept l e) l) (ifAccepted n (entered l e ∷ past) past) (measurements later)) .0)
     (accepts l powered m (t .0) (t .1))
     ∙ charged-from (accept l e) powered (entered l e ∷ past) later (t .2)
-    ∙ add-assoc (charged past) (joins positiveTimes (l .measured) m) (total (m ∷ l .measured) later)
+    ∙ add-assoc (charged past .0) (joins positiveTimes (l .measured) m .0) (total (m ∷ l .measured) later)
 
 -- ---- from the power on
 module _ (taken : List Measured) (timely : Timely 0 taken) where
@@ -52,7 +52,7 @@ module _ (taken : List Measured) (timely : Timely 0 taken) where
   unfolding refusal
   measured-in = measured-from (accept atFirst (PowerOn (ms 0))) refl taken timely
 
-  pub charged-in : charged (accepted (session taken)) ≡ total [] taken
+  pub charged-in : charged (accepted (session taken)) .0 ≡ total [] taken
   unfolding refusal
   charged-in =
       charged-from (accept atFirst (PowerOn (ms 0))) refl (entered atFirst (PowerOn (ms 0)) ∷ []) taken timely ∙ zero-add (total [] taken)

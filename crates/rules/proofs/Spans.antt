@@ -32,7 +32,7 @@ module _ (test : Reading → Bool) (m : Measured) (taken : List Measured) where
   pub ended-down : (d : Milliseconds) (last : ℕ) → Ended test d (m ∷ taken) (suc last) → Ended test d taken last
   ended-down d last e = from (e .0) (e .1) (e .2)
     where
-      from : (first : ℕ) → Span test (m ∷ taken) first (suc last) → d .0 ≤ lengthOf (m ∷ taken) first (suc last) → Ended test d taken last
+      from : (first : ℕ) → Span test (m ∷ taken) first (suc last) → d .0 ≤ lengthOf (m ∷ taken) first (suc last) .0 → Ended test d taken last
       from zero s long = absurd (not-suc-le-zero (s .order))
       from (suc first) s long = (first, span-down s, long)
 

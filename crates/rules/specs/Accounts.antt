@@ -1,47 +1,58 @@
 -- Document 01, "Stores and accounts", its last paragraph.
-use Prim.Native.Nat.{ℕ, suc, _+_, _-_, _*_}
+use Prim.Native.Nat.{ℕ, suc, _+_, _*_}
 use mathlib.Core.Bool.{cond, _&&_}
 use mathlib.Core.List.{List, [], _∷_}
 use lib.IntN.{ℤ, pos, negsuc}
+use Rattle.rules.specs.declared.units.Milliamperes.{Milliamperes}
+use Rattle.rules.specs.declared.units.Milliseconds.{Milliseconds}
+use Rattle.rules.specs.declared.units.Charge.{Charge}
 use Rattle.rules.specs.declared.calls.Event.{Event}
 use Rattle.rules.specs.declared.calls.Event.the-variants.{Measurement, PowerOn, PowerLoss, ContactorCommand, StateRequest, BattleOverride, ClearLongTerm}
+use Rattle.rules.specs.Quantities.{mAms, elapsed}
 use Rattle.rules.specs.Test.{plausible}
-use Rattle.rules.specs.Trips.{Measured, time}
+use Rattle.rules.specs.Trips.{Measured}
 use Rattle.rules.specs.Ledger.{Ledger, Accepted}
 
+-- a figure if it is positive, and the negation of a negative one; 0 otherwise
+abbrev pub positivePart : ℤ → ℕ
+positivePart (pos n) = n
+positivePart (negsuc n) = 0
+
+abbrev pub negativePart : ℤ → ℕ
+negativePart (pos n) = 0
+negativePart (negsuc n) = suc n
+
 -- "the earlier current × the elapsed time joins the charged account if positive"
-abbrev pub positiveTimes : ℤ → ℕ → ℕ
-positiveTimes (pos n) elapsed = n * elapsed
-positiveTimes (negsuc n) elapsed = 0
+abbrev pub positiveTimes : Milliamperes → Milliseconds → Charge
+positiveTimes i t = mAms (positivePart (i .0) * t .0)
 
 -- "if negative, its negation joins the discharged account"
-abbrev pub negativeTimes : ℤ → ℕ → ℕ
-negativeTimes (pos n) elapsed = 0
-negativeTimes (negsuc n) elapsed = suc n * elapsed
+abbrev pub negativeTimes : Milliamperes → Milliseconds → Charge
+negativeTimes i t = mAms (negativePart (i .0) * t .0)
 
 -- "For two neighbouring measurements of a session, both plausible": the last of those before, and the new one
-abbrev pub joins : (ℤ → ℕ → ℕ) → List Measured → Measured → ℕ
-joins part [] now = 0
+abbrev pub joins : (Milliamperes → Milliseconds → Charge) → List Measured → Measured → Charge
+joins part [] now = mAms 0
 joins part (earlier ∷ past) now =
-    cond (plausible (earlier .reading) && plausible (now .reading)) (part (earlier .reading .current .0) (time now - time earlier)) 0
+    mAms (cond (plausible (earlier .reading) && plausible (now .reading)) (part (earlier .reading .current) (elapsed (earlier .at) (now .at)) .0) 0)
 
 -- what a call adds to an account: nothing unless it is a measurement
-abbrev pub joinsAt : (ℤ → ℕ → ℕ) → Ledger → Event → ℕ
+abbrev pub joinsAt : (Milliamperes → Milliseconds → Charge) → Ledger → Event → Charge
 joinsAt part before (Measurement t r) = joins part (before .measured) (record { at = t; reading = r })
-joinsAt part before (PowerOn t) = 0
-joinsAt part before (PowerLoss t) = 0
-joinsAt part before (ContactorCommand t c) = 0
-joinsAt part before (StateRequest t q) = 0
-joinsAt part before (BattleOverride t on) = 0
-joinsAt part before (ClearLongTerm t) = 0
+joinsAt part before (PowerOn t) = mAms 0
+joinsAt part before (PowerLoss t) = mAms 0
+joinsAt part before (ContactorCommand t c) = mAms 0
+joinsAt part before (StateRequest t q) = mAms 0
+joinsAt part before (BattleOverride t on) = mAms 0
+joinsAt part before (ClearLongTerm t) = mAms 0
 
 -- an account over the accepted calls, newest first, of all sessions
-abbrev pub account : (ℤ → ℕ → ℕ) → List Accepted → ℕ
-account part [] = 0
-account part (a ∷ past) = account part past + joinsAt part (a .before) (a .call)
+abbrev pub account : (Milliamperes → Milliseconds → Charge) → List Accepted → Charge
+account part [] = mAms 0
+account part (a ∷ past) = mAms (account part past .0 + joinsAt part (a .before) (a .call) .0)
 
-abbrev pub charged : List Accepted → ℕ
+abbrev pub charged : List Accepted → Charge
 charged past = account positiveTimes past
 
-abbrev pub discharged : List Accepted → ℕ
+abbrev pub discharged : List Accepted → Charge
 discharged past = account negativeTimes past

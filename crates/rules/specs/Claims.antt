@@ -40,8 +40,8 @@ pub record AfterList (battery : ℕ) (calls : List Event) (answers : List ℕ) (
   pub failedMask : after .live .watch .mask ≡ failedMaskOf (ledger calls .measured)
   pub failedCount : after .live .watch .failed ≡ failedCountOf (ledger calls .measured)
   pub tripped : (number : ℕ) → number < 8 → T (keptOf after number .tripped) ↔ TrippedOn battery (ledger calls) number
-  pub charged : after .live .tally .charged .0 ≡ charged (accepted calls)
-  pub discharged : after .live .tally .discharged .0 ≡ discharged (accepted calls)
+  pub charged : after .live .tally .charged ≡ charged (accepted calls)
+  pub discharged : after .live .tally .discharged ≡ discharged (accepted calls)
   pub longTerm : longEntries (after .stores .faults) ≡ longTerm battery (accepted calls)
   pub shortTerm : shortEntries (after .stores .recent) ≡ shortTerm battery (accepted calls)
   pub sound : Sound after

@@ -9,7 +9,7 @@ use lib.IntN.{ℤ, pos, negℤ}
 use Rattle.rules.specs.declared.reading.Reading.{Reading}
 use Rattle.rules.specs.declared.calls.Event.{Event}
 use Rattle.rules.specs.declared.calls.Event.the-variants.{Measurement, PowerOn}
-use Rattle.rules.specs.Quantities.{mV, mA, ms, dC, missionTime}
+use Rattle.rules.specs.Quantities.{mV, mA, ms, dC, mAms, missionTime}
 use Rattle.rules.specs.Test.{plausible}
 use Rattle.rules.specs.Protections.{otherCells, highest, permitted}
 use Rattle.rules.specs.Trips.{Measured, time}
@@ -42,7 +42,7 @@ frame t c = record { at = t; reads = c }
 -- A frame's time counts from a start: with 0 the times are the paper's own, and where it gives none ("one frame") it may be any.
 pub record Meets (start : ℕ) (f : Frame) (m : Measured) : Type 0 where
   pub at : time m ≡ start + f .at
-  pub inMission : time m ≤ missionTime
+  pub inMission : time m ≤ missionTime .0
   pub reads : Reads (f .reads) (m .reading)
 
 -- the calls: power on at 0, then the measurements
@@ -71,12 +71,12 @@ pub data Row : Type 0 where
   charges : List Frame → ℕ → Row
 
 abbrev pub Holds : Row → Type 0
-Holds (permits battery coldest current) = permitted battery (dC coldest) ≡ current
+Holds (permits battery coldest current) = permitted battery (dC coldest) ≡ mA (pos current)
 Holds (leaves types frames number outcome) =
     (battery : ℕ) → List·Memᴰ battery types → (start : ℕ) (taken : List Measured) → Forall₂ (Meets start) frames taken
     → Comes outcome (TrippedOn battery (ledger (session taken)) number)
 Holds (charges frames amount) =
-    (start : ℕ) (taken : List Measured) → Forall₂ (Meets start) frames taken → charged (accepted (session taken)) ≡ amount
+    (start : ℕ) (taken : List Measured) → Forall₂ (Meets start) frames taken → charged (accepted (session taken)) ≡ mAms amount
 
 abbrev pub anyType : List ℕ
 anyType = 1 ∷ 2 ∷ 3 ∷ []

@@ -4,13 +4,14 @@ use mathlib.Core.Bool.{Bool, true, false, cond, _&&_}
 use mathlib.Core.List.{List, [], _∷_}
 use lib.Dec.{ltb}
 use lib.ListN.{getD}
-use lib.IntN.{ℤ, pos, negsuc, negℤ}
+use lib.IntN.{ℤ, pos, negsuc, natAbs}
 use Rattle.rules.specs.declared.units.Millivolts.{Millivolts}
+use Rattle.rules.specs.declared.units.Milliamperes.{Milliamperes}
 use Rattle.rules.specs.declared.units.Milliseconds.{Milliseconds}
 use Rattle.rules.specs.declared.units.DeciCelsius.{DeciCelsius}
 use Rattle.rules.specs.declared.reading.Reading.{Reading}
 use Rattle.rules.specs.declared.reading.Extremes.{Extremes}
-use Rattle.rules.specs.Quantities.{mV, mA, ms, dC, _<mV_, _≤mV_, _<mA_, _≤mA_, _<dC_, _≤dC_, chargeRating, dischargeRating}
+use Rattle.rules.specs.Quantities.{mV, mA, ms, dC, _<mV_, _≤mV_, _<mA_, _≤mA_, _<dC_, _≤dC_, sum, negated, chargeRating, dischargeRating}
 
 -- ---- highest and lowest cell, hottest and coldest
 
@@ -49,13 +50,13 @@ extremes r = record {
 -- ---- the permitted charge current
 
 -- "L is the permitted charge current at coldest temperature c: 0 if c < 0; C × (c + 50)² ÷ 90,000 rounded down if 0 ≤ c < 250;
--- otherwise C", in mA
+-- otherwise C". The formula is on figures, C and L in mA and c in tenths of a degree, since it multiplies them.
 abbrev pub permittedAt : ℕ → ℤ → ℕ
 permittedAt rating (negsuc c) = 0
 permittedAt rating (pos c) = cond (ltb c 250) (rating * ((c + 50) * (c + 50)) / 90_000) rating
 
-unfoldable pub permitted : ℕ → DeciCelsius → ℕ
-permitted battery coldest = permittedAt (chargeRating battery) (coldest .0)
+unfoldable pub permitted : ℕ → DeciCelsius → Milliamperes
+permitted battery coldest = mA (pos (permittedAt (natAbs (chargeRating battery .0)) (coldest .0)))
 
 -- ---- the table
 
@@ -128,8 +129,8 @@ coldCharge = record {
 abbrev pub chargeOvercurrent : ℕ → Protection
 chargeOvercurrent battery = record {
   value = λ r. r .current .0;
-  beyond = λ r. mA (pos (permitted battery (coldest r) + 2_000)) <mA r .current;
-  within = λ r. r .current ≤mA mA (pos (permitted battery (coldest r)));
+  beyond = λ r. sum (permitted battery (coldest r)) (mA (pos 2_000)) <mA r .current;
+  within = λ r. r .current ≤mA permitted battery (coldest r);
   hold = ms 3_000;
   release = ms 10_000;
   liftable = false;
@@ -138,8 +139,8 @@ chargeOvercurrent battery = record {
 abbrev pub shortCircuit : ℕ → Protection
 shortCircuit battery = record {
   value = λ r. r .current .0;
-  beyond = λ r. r .current <mA mA (negℤ (pos 1_100_000));
-  within = λ r. mA (negℤ (pos (dischargeRating battery))) ≤mA r .current;
+  beyond = λ r. r .current <mA negated (mA (pos 1_100_000));
+  within = λ r. negated (dischargeRating battery) ≤mA r .current;
   hold = ms 0;
   release = ms 1_000;
   liftable = false;
@@ -148,8 +149,8 @@ shortCircuit battery = record {
 abbrev pub dischargeOvercurrent : ℕ → Protection
 dischargeOvercurrent battery = record {
   value = λ r. r .current .0;
-  beyond = λ r. r .current <mA mA (negℤ (pos (dischargeRating battery)));
-  within = λ r. mA (negℤ (pos (dischargeRating battery))) ≤mA r .current;
+  beyond = λ r. r .current <mA negated (dischargeRating battery);
+  within = λ r. negated (dischargeRating battery) ≤mA r .current;
   hold = ms 30_500;
   release = ms 10_000;
   liftable = true;

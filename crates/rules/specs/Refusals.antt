@@ -8,7 +8,7 @@ use Rattle.rules.specs.declared.calls.Event.{Event}
 use Rattle.rules.specs.declared.calls.Event.the-variants.{Measurement, PowerOn, PowerLoss, ContactorCommand, StateRequest, BattleOverride, ClearLongTerm}
 use Rattle.rules.specs.declared.states.State.{State}
 use Rattle.rules.specs.declared.units.Milliseconds.{Milliseconds}
-use Rattle.rules.specs.Quantities.{missionTime, isType}
+use Rattle.rules.specs.Quantities.{_<ms_, missionTime, isType}
 use Rattle.rules.specs.Calls.{timeOf}
 use Rattle.rules.specs.States.{isPowered, requestAllowed, commandAllowed, overrideAllowed, clearAllowed}
 
@@ -59,8 +59,8 @@ otherBarred s commands (StateRequest t q) = false
 -- Rows 6 to 10, on a state, a last accepted time and a command count.
 abbrev pub callChecks : State → Milliseconds → ℕ → Event → List Check
 callChecks s last commands e =
-    record { number = 6; condition = ltb (timeOf e .0) (last .0) }
-    ∷ record { number = 7; condition = ltb missionTime (timeOf e .0) }
+    record { number = 6; condition = timeOf e <ms last }
+    ∷ record { number = 7; condition = missionTime <ms timeOf e }
     ∷ record { number = 8; condition = misplaced s e }
     ∷ record { number = 9; condition = requestBarred s e }
     ∷ record { number = 10; condition = otherBarred s commands e }

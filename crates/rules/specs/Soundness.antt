@@ -4,25 +4,27 @@ use Prim.Native.Nat.{ℕ, _*_, _≤_, _<_}
 use mathlib.Core.List.{List}
 use lib.Dec.{T}
 use lib.ListN.{getD}
+use Rattle.rules.specs.declared.units.Milliseconds.{Milliseconds}
+use Rattle.rules.specs.declared.units.Charge.{Charge}
 use Rattle.rules.specs.declared.tracking.Span.{Span}
 use Rattle.rules.specs.declared.tracking.Span.the-variants.{Idle, Beyond, Within}
 use Rattle.rules.specs.declared.tracking.Previous.{Previous}
 use Rattle.rules.specs.declared.tracking.Previous.the-variants.{Nothing, Frame}
 use Rattle.rules.specs.declared.battery.Record.{Record}
-use Rattle.rules.specs.Quantities.{missionTime, isType}
+use Rattle.rules.specs.Quantities.{mAms, missionTime, isType}
 use Rattle.rules.specs.Test.{currentInRange}
 use Rattle.rules.specs.Shown.{keptOf}
 
 -- a span start is not later than the last time
-abbrev pub StartedBy : ℕ → Span → Type 0
+abbrev pub StartedBy : Milliseconds → Span → Type 0
 StartedBy last Idle = Unit {0}
-StartedBy last (Beyond start) = start .0 ≤ last
-StartedBy last (Within start) = start .0 ≤ last
+StartedBy last (Beyond start) = start .0 ≤ last .0
+StartedBy last (Within start) = start .0 ≤ last .0
 
 -- nor is the last measurement
-abbrev pub MeasuredBy : ℕ → Previous → Type 0
+abbrev pub MeasuredBy : Milliseconds → Previous → Type 0
 MeasuredBy last Nothing = Unit {0}
-MeasuredBy last (Frame t i) = t .0 ≤ last
+MeasuredBy last (Frame t i) = t .0 ≤ last .0
 
 abbrev pub KeptInRange : Previous → Type 0
 KeptInRange Nothing = Unit {0}
@@ -32,12 +34,16 @@ KeptInRange (Frame t i) = T (currentInRange i)
 abbrev pub NumbersBelow8 : ℕ → List ℕ → Type 0
 NumbersBelow8 count numbers = (place : ℕ) → place < count → getD numbers place 0 ≤ 7
 
+-- the most that an account may hold at a last time
+abbrev pub accountLimit : Milliseconds → Charge
+accountLimit last = mAms (2_000_000 * last .0)
+
 -- document 01: "Unsound"; each part is one condition of its list
 pub record Sound (r : Record) : Type 0 where
   -- "type not 1, 2, 3"
   pub battery : T (isType (r .live .battery))
   -- "last time above 345,600,000"
-  pub lastTime : r .live .last .0 ≤ missionTime
+  pub lastTime : r .live .last .0 ≤ missionTime .0
   -- "more than 64 or 16 entries counted"
   pub longCount : r .stores .faults .count ≤ 64
   pub shortCount : r .stores .recent .count ≤ 16
@@ -47,10 +53,10 @@ pub record Sound (r : Record) : Type 0 where
   -- "a sensor mask above 13 bits"
   pub mask : r .live .watch .mask < 8_192
   -- "an account above 2,000,000 × last time"
-  pub charged : r .live .tally .charged .0 ≤ 2_000_000 * r .live .last .0
-  pub discharged : r .live .tally .discharged .0 ≤ 2_000_000 * r .live .last .0
+  pub charged : r .live .tally .charged .0 ≤ accountLimit (r .live .last) .0
+  pub discharged : r .live .tally .discharged .0 ≤ accountLimit (r .live .last) .0
   -- "a span start or last measurement later than the last time"
-  pub spans : (number : ℕ) → number < 8 → StartedBy (r .live .last .0) (keptOf r number .span)
-  pub previous : MeasuredBy (r .live .last .0) (r .live .watch .previous)
+  pub spans : (number : ℕ) → number < 8 → StartedBy (r .live .last) (keptOf r number .span)
+  pub previous : MeasuredBy (r .live .last) (r .live .watch .previous)
   -- "a kept current outside the plausible range"
   pub current : KeptInRange (r .live .watch .previous)

@@ -1,15 +1,15 @@
 -- Document 01, "Protections", its last paragraph: spans, their lengths, and when a protection is tripped.
 -- A session's measurements stand newest first, so that the list with one more is that one in front of it: `back taken k` is the
 -- measurement k places before the last, and "later" is a smaller k.
-use Prim.Native.Nat.{ℕ, _-_, _≤_, _<_}
+use Prim.Native.Nat.{ℕ, _≤_, _<_}
 use mathlib.Core.Bool.{Bool, false, not, _&&_, _||_}
 use mathlib.Core.List.{List, [], _∷_}
-use lib.Dec.{T, leb}
+use lib.Dec.{T}
 use lib.IntN.{pos}
 use lib.ListN.{length, getD}
 use Rattle.rules.specs.declared.units.Milliseconds.{Milliseconds}
 use Rattle.rules.specs.declared.reading.Reading.{Reading}
-use Rattle.rules.specs.Quantities.{mV, mA, ms, dC}
+use Rattle.rules.specs.Quantities.{mV, mA, ms, dC, _≤ms_, elapsed}
 use Rattle.rules.specs.Test.{plausible}
 use Rattle.rules.specs.Protections.{Protection}
 
@@ -58,12 +58,12 @@ pub record Span (test : Reading → Bool) (taken : List Measured) (first last : 
   pub all : (k : ℕ) → last ≤ k → k ≤ first → T (passes test (back taken k))
 
 -- "its length is its last time minus its first"
-abbrev pub lengthOf : List Measured → ℕ → ℕ → ℕ
-lengthOf taken first last = time (back taken last) - time (back taken first)
+abbrev pub lengthOf : List Measured → ℕ → ℕ → Milliseconds
+lengthOf taken first last = elapsed (back taken first .at) (back taken last .at)
 
 -- a span of length at least d ended at the measurement `last` places back
 abbrev pub Ended : (Reading → Bool) → Milliseconds → List Measured → ℕ → Type 0
-Ended test d taken last = (first : ℕ) × Span test taken first last × (d .0 ≤ lengthOf taken first last)
+Ended test d taken last = (first : ℕ) × Span test taken first last × (d .0 ≤ lengthOf taken first last .0)
 
 -- document 01: "A protection is tripped after a list exactly if some beyond span of length at least its hold ended at a measurement of
 -- this session, and no within span of length at least its release time ended later."
@@ -73,13 +73,13 @@ Tripped p taken =
 
 -- The same as a test that computes; proofs/Decide has that the two agree, for any protection.
 -- a span ends at the newest measurement, and goes back to one at least d before the time t
-abbrev pub reaches : (Reading → Bool) → ℕ → ℕ → List Measured → Bool
+abbrev pub reaches : (Reading → Bool) → Milliseconds → Milliseconds → List Measured → Bool
 reaches test d t [] = false
-reaches test d t (m ∷ taken) = passes test m && (leb d (t - time m) || reaches test d t taken)
+reaches test d t (m ∷ taken) = passes test m && ((d ≤ms elapsed (m .at) t) || reaches test d t taken)
 
 abbrev pub endsNow : (Reading → Bool) → Milliseconds → List Measured → Bool
 endsNow test d [] = false
-endsNow test d (m ∷ taken) = reaches test (d .0) (time m) (m ∷ taken)
+endsNow test d (m ∷ taken) = reaches test d (m .at) (m ∷ taken)
 
 abbrev pub isTripped : Protection → List Measured → Bool
 isTripped p [] = false

@@ -3,10 +3,12 @@ use mathlib.Core.Path.{_≡_, refl, sym, ap, ap₂, subst, _∙_}
 use mathlib.Core.Bool.{Bool, true, false, not, cond, _&&_}
 use mathlib.Core.List.{List, [], _∷_, _++_, append-nil}
 use Prim.Native.Nat.{ℕ, _+_, _*_, _≤_, _<_}
+use native.Mathlib.Nat.{add-zero}
 use native.Mathlib.Omega.{arith}
-use lib.IntN.{ℤ}
 use lib.ListN.{take}
+use Rattle.rules.specs.declared.units.Milliamperes.{Milliamperes}
 use Rattle.rules.specs.declared.units.Milliseconds.{Milliseconds}
+use Rattle.rules.specs.declared.units.Charge.{Charge}
 use Rattle.rules.specs.declared.reading.Reading.{Reading}
 use Rattle.rules.specs.declared.states.State.{State}
 use Rattle.rules.specs.declared.states.State.the-variants.{Unpowered, Dormant, Operational, Maintenance}
@@ -26,6 +28,7 @@ use Rattle.rules.specs.declared.stores.Entry.{Entry}
 use Rattle.rules.specs.Calls.{timeOf}
 use Rattle.rules.specs.Numbers.{testNumber}
 use Rattle.rules.specs.States.{requested, isChange, entersDormant}
+use Rattle.rules.specs.Quantities.{mAms}
 use Rattle.rules.specs.Test.{plausible}
 use Rattle.rules.specs.Protections.{protection}
 use Rattle.rules.specs.Trips.{Measured}
@@ -37,14 +40,14 @@ use Rattle.rules.proofs.Apart.{apart}
 use Rattle.step.specs.Fresh.{noWatch, controlIn, noneRecent}
 use Rattle.step.specs.Sound.{at}
 use Rattle.step.specs.Track.{trackOne, trackAll, observe}
-use Rattle.step.specs.Charge.{inflow, outflow, flowed, charge}
+use Rattle.step.specs.Charge.{flowed, charge}
 use Rattle.step.specs.Call.{requestControl, advance}
 use Rattle.step.proofs.Bools.{at-place}
 use Rattle.step.proofs.Tracking.{AllBy, Ordered, all-by-later, Tracks, tracks-next}
 use Rattle.step.proofs.Refusals.{InTime}
 use Rattle.step.proofs.Lists.{take-kept, last-kept}
 use Rattle.step.proofs.Adding.{Added, added-all}
-use Rattle.step.proofs.Charging.{inflow-is, outflow-is, flowed-is, accountTime, Bounded, joins-bounded, positive-bounded, negative-bounded}
+use Rattle.step.proofs.Charging.{flowed-is, accountTime, Bounded, joins-bounded, positive-bounded, negative-bounded}
 use Rattle.step.proofs.Shows.{ShowsControl, ShowsWatch, ShowsTally, ShowsStores, Timed, Shows, watch-none, long-none, short-none}
 
 -- ---- what a call leaves as it is
@@ -154,30 +157,30 @@ module _ (r : Record) (l : Ledger) (past : List Accepted) (k : Shows r l past) w
     }
 
     -- one account, by what flows into it
-    module _ (flow part : ℤ → ℕ → ℕ) (e : (i : ℤ) (n : ℕ) → flow i n ≡ part i n) (b : Bounded part) (n : ℕ) where
-      more : ℕ
-      more = flowed flow (r .live .watch .previous) (plausible m) t
+    module _ (part : Milliamperes → Milliseconds → Charge) (b : Bounded part) (n : Charge) where
+      more : Charge
+      more = flowed part (r .live .watch .previous) (plausible m) t
 
       is-joined : more ≡ joins part (l .measured) new
       unfolding more
-      is-joined = rw (k .watch .previous) (flowed-is flow part e (l .measured) t m)
+      is-joined = rw (k .watch .previous) (flowed-is part (l .measured) t m)
 
-      account-is : n ≡ account part past → n + more ≡ account part (a ∷ past)
-      account-is q = ap₂ _+_ q is-joined
+      account-is : n ≡ account part past → mAms (n .0 + more .0) ≡ account part (a ∷ past)
+      account-is q = ap₂ (λ (x y : Charge). mAms (x .0 + y .0)) q is-joined
 
-      account-by : n ≤ 2_000_000 * accountTime (l .last .0) (l .measured) → n + more ≤ 2_000_000 * t .0
+      account-by : n .0 ≤ 2_000_000 * accountTime (l .last .0) (l .measured) → n .0 + more .0 ≤ 2_000_000 * t .0
       account-by q =
           rw is-joined
-          (joins-bounded part b (l .measured) new (l .last .0) n (omega (arith, account-time (l .last .0) (l .measured) (k .timed .by), h .after)) q)
+          (joins-bounded part b (l .measured) new (l .last .0) (n .0) (omega (arith, account-time (l .last .0) (l .measured) (k .timed .by), h .after)) q)
 
     tallied : ShowsTally (advance r (Measurement t m) .live .tally) (l .commands) (t .0) (a ∷ past)
     unfolding charge more
     tallied = record {
       counted = k .tally .counted;
-      charged = account-is inflow positiveTimes inflow-is positive-bounded (r .live .tally .charged .0) (k .tally .charged);
-      discharged = account-is outflow negativeTimes outflow-is negative-bounded (r .live .tally .discharged .0) (k .tally .discharged);
-      chargedBy = account-by inflow positiveTimes inflow-is positive-bounded (r .live .tally .charged .0) (k .tally .chargedBy);
-      dischargedBy = account-by outflow negativeTimes outflow-is negative-bounded (r .live .tally .discharged .0) (k .tally .dischargedBy);
+      charged = account-is positiveTimes positive-bounded (r .live .tally .charged) (k .tally .charged);
+      discharged = account-is negativeTimes negative-bounded (r .live .tally .discharged) (k .tally .discharged);
+      chargedBy = account-by positiveTimes positive-bounded (r .live .tally .charged) (k .tally .chargedBy);
+      dischargedBy = account-by negativeTimes negative-bounded (r .live .tally .discharged) (k .tally .dischargedBy);
     }
 
     measured : Shows (advance r (Measurement t m)) (accept l (Measurement t m)) (a ∷ past)
@@ -206,12 +209,12 @@ module _ (r : Record) (l : Ledger) (past : List Accepted) (k : Shows r l past) w
 
     -- the accounts likewise
     tally-kept : (commands commands' bound : ℕ) → commands ≡ commands' → accountTime (l .last .0) (l .measured) ≤ bound → (more : Accepted)
-        → charged (more ∷ past) ≡ charged past + 0 → discharged (more ∷ past) ≡ discharged past + 0
+        → charged (more ∷ past) ≡ mAms (charged past .0 + 0) → discharged (more ∷ past) ≡ mAms (discharged past .0 + 0)
         → ShowsTally (record { commands = commands; charged = r .live .tally .charged; discharged = r .live .tally .discharged }) commands' bound (more ∷ past)
     tally-kept commands commands' bound e b more p p' = record {
       counted = e;
-      charged = omega (arith, k .tally .charged, p);
-      discharged = omega (arith, k .tally .discharged, p');
+      charged = k .tally .charged ∙ sym (p ∙ ap mAms (add-zero (charged past .0)));
+      discharged = k .tally .discharged ∙ sym (p' ∙ ap mAms (add-zero (discharged past .0)));
       chargedBy = omega (arith, k .tally .chargedBy);
       dischargedBy = omega (arith, k .tally .dischargedBy);
     }
@@ -225,7 +228,7 @@ module _ (r : Record) (l : Ledger) (past : List Accepted) (k : Shows r l past) w
     -- a session goes on, with another setting
     set-control : (e : Event) (c : Control) (commands : ℕ) → ShowsControl c (accept l e) → commands ≡ accept l e .commands
         → accept l e .last ≡ t → accept l e .measured ≡ l .measured
-        → charged (entered l e ∷ past) ≡ charged past + 0 → discharged (entered l e ∷ past) ≡ discharged past + 0
+        → charged (entered l e ∷ past) ≡ mAms (charged past .0 + 0) → discharged (entered l e ∷ past) ≡ mAms (discharged past .0 + 0)
         → (s : Stores) → ShowsStores (r .live .battery) s (entered l e ∷ past)
         → Shows (record {
           live = record {
@@ -282,7 +285,7 @@ module _ (r : Record) (l : Ledger) (past : List Accepted) (k : Shows r l past) w
     bordered s = record { state = s; command = Automated; override = false; last = t; commands = l .commands; measured = [] }
 
     border : (s : State) (more : Accepted)
-        → charged (more ∷ past) ≡ charged past + 0 → discharged (more ∷ past) ≡ discharged past + 0
+        → charged (more ∷ past) ≡ mAms (charged past .0 + 0) → discharged (more ∷ past) ≡ mAms (discharged past .0 + 0)
         → longTerm (r .live .battery) (more ∷ past) ≡ take 64 (since isClear (tripsOf (r .live .battery)) past ++ [])
         → shortTerm (r .live .battery) (more ∷ past) ≡ []
         → Shows (record {

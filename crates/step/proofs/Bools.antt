@@ -7,7 +7,8 @@ use Prim.Native.Nat.{ℕ, zero, suc, _<_, zero-le, suc-le-suc}
 use native.Mathlib.Nat.{le-of-suc-le-suc, not-suc-le-zero}
 use lib.Dec.{T}
 use lib.ListN.{getD}
-use Rattle.step.specs.Sound.{all, listOf}
+use Rattle.rules.specs.Test.{all}
+use Rattle.step.specs.Sound.{listOf}
 
 pub and-iff : (a b : Bool) → T (a && b) ↔ (T a × T b)
 and-iff true b = (λ h. (tt, h), λ q. q .1)

@@ -24,7 +24,7 @@ use Rattle.step.specs.Refusal.{refusal, refusalLive}
 use Rattle.step.specs.Close.{closes, contactor}
 use Rattle.step.specs.Call.{advance, answer, call, run, answers}
 use Rattle.step.proofs.Bools.{and-iff, is-true}
-use Rattle.step.proofs.Refusals.{by-table, table-listed, table-not-5}
+use Rattle.step.proofs.Refusals.{table-listed, table-not-5}
 use Rattle.step.proofs.Sounds.{sound-is, type-is}
 use Rattle.step.proofs.Shows.{Shows, shows-fresh}
 use Rattle.step.proofs.Runs.{shows-sound, shows-run, answers-are, battery-run}
@@ -175,9 +175,9 @@ module _ (before : Record) (e : Event) where
   -- the refusal of a sound record, and of one that isn't
   of-sound : (b : Bool) → sound before ≡ b → Refused before e (cond b (refusalLive (before .live) e) 5) (answer (cond b (refusalLive (before .live) e) 5) (advance before e) before .after)
   of-sound true s = record {
-    listed = rw (by-table (before .live) e) (table-listed _ _ _ e);
-    unsound = (λ h. absurd (table-not-5 _ _ _ e (sym (by-table (before .live) e) ∙ h)), λ h. absurd (h (sound-is before .0 (is-true (sound before) .1 s))));
-    byTable = λ h. by-table (before .live) e;
+    listed = table-listed _ _ _ e;
+    unsound = (λ h. absurd (table-not-5 _ _ _ e h), λ h. absurd (h (sound-is before .0 (is-true (sound before) .1 s))));
+    byTable = λ h. refl;
     unchanged = λ h. kept (refusalLive (before .live) e) h;
   }
   of-sound false s = record {

@@ -6,23 +6,20 @@ use mathlib.Core.List.{List}
 use Prim.Native.Nat.{ℕ, _<_}
 use native.Mathlib.Omega.{arith}
 use lib.Dec.{T}
-use Rattle.rules.specs.declared.states.State.{State}
-use Rattle.rules.specs.declared.states.State.the-variants.{Unpowered, Dormant, Operational, Maintenance}
 use Rattle.rules.specs.declared.states.TestResult.{TestResult}
 use Rattle.rules.specs.declared.states.TestResult.the-variants.{NotRun, Passed, Failed}
 use Rattle.rules.specs.declared.states.Contactor.the-variants.{Open as IsOpen, Closed as IsClosed}
-use Rattle.rules.specs.declared.calls.Command.{Command}
-use Rattle.rules.specs.declared.calls.Command.the-variants.{Automated, Open, ForceClosed}
 use Rattle.rules.specs.declared.tracking.ProtectionState.{ProtectionState}
 use Rattle.rules.specs.declared.battery.Live.{Live}
 use Rattle.rules.specs.declared.battery.Record.{Record}
 use Rattle.rules.specs.Numbers.{testNumber, contactorNumber}
 use Rattle.rules.specs.Protections.{protection}
 use Rattle.rules.specs.Ledger.{Ledger, TrippedOn, isTrippedOn, Accepted}
-use Rattle.rules.specs.Contactor.{StateAndCommand, PermitsClosing, InForce, AllLiftable, NoneTripped, SomeTripped, Closed, ContactorsDiffer}
+use Rattle.rules.specs.Contactor.{PermitsClosing, InForce, AllLiftable, NoneTripped, SomeTripped, Closed, ContactorsDiffer, stateAndCommand}
 use Rattle.rules.proofs.Decide.{is-tripped}
-use Rattle.step.specs.Sound.{at, all}
-use Rattle.step.specs.Close.{hasPassed, ready, lifted, closes, contactor}
+use Rattle.rules.proofs.Closing.{settings-are}
+use Rattle.step.specs.Sound.{at}
+use Rattle.step.specs.Close.{hasPassed, lifted, closes, contactor}
 use Rattle.step.proofs.Bools.{and-iff, is-true, all-places, some-place}
 use Rattle.step.proofs.Shows.{Shows}
 
@@ -32,23 +29,6 @@ passed-is : (t : TestResult) → T (hasPassed t) ↔ (testNumber t ≡ 1)
 passed-is NotRun = (λ h. absurd h, λ e. absurd (omega arith))
 passed-is Passed = (λ h. refl, λ h. tt)
 passed-is Failed = (λ h. absurd h, λ e. absurd (omega arith))
-
-ready-is : (l : Ledger) → T (ready (l .state) (l .command)) ↔ StateAndCommand l
-ready-is l = (to (l .state) refl (l .command) refl, from)
-  where
-    to : (s : State) → l .state ≡ s → (c : Command) → l .command ≡ c → T (ready s c) → StateAndCommand l
-    to Unpowered e c f h = absurd h
-    to Dormant e c f h = absurd h
-    to Operational e Automated f h = inl (e, f)
-    to Operational e Open f h = absurd h
-    to Operational e ForceClosed f h = absurd h
-    to Maintenance e Automated f h = absurd h
-    to Maintenance e Open f h = absurd h
-    to Maintenance e ForceClosed f h = inr (e, f)
-
-    from : StateAndCommand l → T (ready (l .state) (l .command))
-    from (inl (e, f)) = rw (e, f) tt
-    from (inr (e, f)) = rw (e, f) tt
 
 -- ---- the protections
 
@@ -133,7 +113,7 @@ contactor-number false = (λ e. absurd (omega arith), λ h. absurd h)
 
 module _ (r : Record) (l : Ledger) (past : List Accepted) (k : Shows r l past) where
   abbrev permits : Bool
-  permits = hasPassed (r .live .watch .test) && ready (r .live .control .state) (r .live .control .command)
+  permits = hasPassed (r .live .watch .test) && stateAndCommand (r .live .control .state) (r .live .control .command)
 
   shown : (i : ℕ) → i < 8 → at (r .live .watch .protections) i .tripped ≡ isTrippedOn (r .live .battery) l i
   shown i h = k .watch .protections i h .tripped
@@ -141,22 +121,22 @@ module _ (r : Record) (l : Ledger) (past : List Accepted) (k : Shows r l past) w
   pub permits-is : T permits ↔ PermitsClosing l
   permits-is = (to, from)
     where
-      both : T permits ↔ (T (hasPassed (r .live .watch .test)) × T (ready (r .live .control .state) (r .live .control .command)))
-      both = and-iff (hasPassed (r .live .watch .test)) (ready (r .live .control .state) (r .live .control .command))
+      both : T permits ↔ (T (hasPassed (r .live .watch .test)) × T (stateAndCommand (r .live .control .state) (r .live .control .command)))
+      both = and-iff (hasPassed (r .live .watch .test)) (stateAndCommand (r .live .control .state) (r .live .control .command))
 
-      same-ready : ready (r .live .control .state) (r .live .control .command) ≡ ready (l .state) (l .command)
-      same-ready = rw (k .control .state, k .control .command) refl
+      same-settings : stateAndCommand (r .live .control .state) (r .live .control .command) ≡ stateAndCommand (l .state) (l .command)
+      same-settings = rw (k .control .state, k .control .command) refl
 
       to : T permits → PermitsClosing l
       to h = record {
         test = sym (k .watch .test) ∙ passed-is (r .live .watch .test) .0 (both .0 h .0);
-        stateAndCommand = ready-is l .0 (subst T same-ready (both .0 h .1));
+        stateAndCommand = settings-are l .0 (subst T same-settings (both .0 h .1));
       }
 
       from : PermitsClosing l → T permits
       from p = both .1 (
         passed-is (r .live .watch .test) .1 (k .watch .test ∙ p .test),
-        subst T (sym same-ready) (ready-is l .1 (p .stateAndCommand)),
+        subst T (sym same-settings) (settings-are l .1 (p .stateAndCommand)),
       )
 
   pub closed-is : (contactorNumber (contactor r) ≡ 1) ↔ Closed (r .live .battery) l

@@ -15,7 +15,8 @@ use Rattle.rules.specs.declared.battery.Control.{Control}
 use Rattle.rules.specs.declared.battery.Record.{Record}
 use Rattle.rules.specs.Alike.{Alike, none, same, switched}
 use Rattle.step.specs.Sound.{soundLive}
-use Rattle.step.specs.Refusal.{refusal, refusalLive}
+use Rattle.rules.specs.Refusals.{refusal as refusalByTable}
+use Rattle.step.specs.Refusal.{refusal}
 use Rattle.step.specs.Call.{requestControl, advance, answer, call, run, answers}
 use Rattle.step.proofs.Closing.{overridden}
 
@@ -66,7 +67,7 @@ number-answer (suc n) a b r q = refl
 
 -- refusal doesn't look at override
 refusal-erase : (r : Record) (e : Event) → refusal r e ≡ refusal (erase r) e
-unfolding soundLive refusalLive
+unfolding soundLive refusalByTable
 refusal-erase r e = refl
 
 -- ---- one call
@@ -86,7 +87,7 @@ number-same r q e h = number-erase r e ∙ ap (λ (x : Record). call x e .number
 -- ---- an override call with either value, on one record
 
 refusal-switch : (r : Record) (t : Milliseconds) (x y : Bool) → refusal r (BattleOverride t x) ≡ refusal r (BattleOverride t y)
-unfolding refusalLive
+unfolding refusalByTable
 refusal-switch r t x y = refl
 
 after-switch : (r : Record) (t : Milliseconds) (x y : Bool) → erase (call r (BattleOverride t x) .after) ≡ erase (call r (BattleOverride t y) .after)

@@ -63,7 +63,7 @@ module _ (r : Record) (l : Ledger) (past : List Accepted) (k : Shows r l past) w
   line-shown number refusal =
       rw (closed-same, tripped-same, k .control .state, k .control .override, k .watch .test) refl
 
-  pub end-shown : endOf r ≡ endLine (charged past) (discharged past) (length (longTerm (r .live .battery) past))
+  pub end-shown : endOf r ≡ endLine (charged past .0) (discharged past .0) (length (longTerm (r .live .battery) past))
   unfolding longEntries
   end-shown = rw (k .tally .charged, k .tally .discharged, sym (k .stores .long), length-first (r .stores .faults .count) (longEntry (r .stores .faults))) refl
 
@@ -87,7 +87,7 @@ last-shown : (battery : ℕ) → T (isType battery) → (calls : List Event) (en
     → lastOf (run (freshRecord battery) calls) ending ≡ lastLine battery calls ending
 last-shown battery type calls atEnd =
     end-shown (run (freshRecord battery) calls) _ (accepted calls) (shows-run (freshRecord battery) atFirst [] calls (shows-fresh battery type))
-    ∙ ap (λ (b : ℕ). endLine (charged (accepted calls)) (discharged (accepted calls)) (length (longTerm b (accepted calls)))) (battery-run (freshRecord battery) calls)
+    ∙ ap (λ (b : ℕ). endLine (charged (accepted calls) .0) (discharged (accepted calls) .0) (length (longTerm b (accepted calls)))) (battery-run (freshRecord battery) calls)
 last-shown battery type calls (stopped number position) = refl
 
 -- ---- a whole input

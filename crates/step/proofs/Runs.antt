@@ -5,6 +5,7 @@ use mathlib.Core.List.{List, [], _∷_, _++_}
 use Prim.Native.Nat.{ℕ, zero, suc, _≤_, _<_}
 use native.Mathlib.Omega.{arith}
 use lib.Dec.{T}
+use Rattle.rules.specs.declared.units.Milliseconds.{Milliseconds}
 use Rattle.rules.specs.declared.tracking.Previous.the-variants.{Nothing, Frame}
 use Rattle.rules.specs.declared.calls.Event.{Event}
 use Rattle.rules.specs.declared.calls.Event.the-variants.{Measurement, PowerOn, PowerLoss, ContactorCommand, StateRequest, BattleOverride, ClearLongTerm}
@@ -20,7 +21,7 @@ use Rattle.step.specs.Refusal.{refusal, refusalLive}
 use Rattle.step.specs.Call.{advance, answer, call, run, answers}
 use Rattle.step.proofs.Bools.{is-true}
 use Rattle.step.proofs.Tracking.{AllBy, tracks-by}
-use Rattle.step.proofs.Refusals.{by-table, in-time}
+use Rattle.step.proofs.Refusals.{in-time}
 use Rattle.step.proofs.Sounds.{sound-is}
 use Rattle.step.proofs.Charging.{previousOf, accountTime, plausible-current}
 use Rattle.step.proofs.Shows.{Shows}
@@ -32,7 +33,7 @@ mask-by : (taken : List Measured) → failedMaskOf taken < 8_192
 mask-by [] = omega arith
 mask-by (m ∷ taken) = mask-13-bits (m .reading)
 
-previous-by : (last : ℕ) (taken : List Measured) → AllBy last taken → MeasuredBy last (previousOf taken)
+previous-by : (last : Milliseconds) (taken : List Measured) → AllBy (last .0) taken → MeasuredBy last (previousOf taken)
 previous-by last [] h = tt
 previous-by last (m ∷ taken) h = go (plausible (m .reading))
   where
@@ -60,8 +61,8 @@ shows-sound r l past k = record {
   charged = rw (k .last) (omega (arith, k .tally .chargedBy, bound));
   discharged = rw (k .last) (omega (arith, k .tally .dischargedBy, bound));
   spans = λ number h. rw (k .last)
-      (tracks-by (protection (r .live .battery) number) (at (r .live .watch .protections) number) (l .measured) (l .last .0) (k .timed .by) (k .watch .protections number h));
-  previous = rw (k .last, k .watch .previous) (previous-by (l .last .0) (l .measured) (k .timed .by));
+      (tracks-by (protection (r .live .battery) number) (at (r .live .watch .protections) number) (l .measured) (l .last) (k .timed .by) (k .watch .protections number h));
+  previous = rw (k .last, k .watch .previous) (previous-by (l .last) (l .measured) (k .timed .by));
   current = rw (k .watch .previous) (previous-kept (l .measured));
 }
   where
@@ -74,7 +75,7 @@ module _ (r : Record) (l : Ledger) (past : List Accepted) (k : Shows r l past) w
   pub same-refusal : (e : Event) → refusal r e ≡ refused l e
   same-refusal e =
       ap (λ (b : Bool). cond b (refusalLive (r .live) e) 5) (is-true (sound r) .0 (sound-is r .1 (shows-sound r l past k)))
-      ∙ by-table (r .live) e ∙ rw (k .control .state, k .last, k .tally .counted) refl
+      ∙ rw (k .control .state, k .last, k .tally .counted) refl
 
   pub shows-call : (e : Event) → Shows (call r e .after) (enter l e) (ifAccepted (refused l e) (entered l e ∷ past) past)
   shows-call e = go (refused l e) refl

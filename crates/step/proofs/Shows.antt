@@ -42,8 +42,8 @@ pub record ShowsWatch (battery : ℕ) (w : Watch) (taken : List Measured) : Type
 -- an account is at most 2,000,000 × the bound, a time
 pub record ShowsTally (n : Tally) (commands bound : ℕ) (past : List Accepted) : Type 0 where
   pub counted : n .commands ≡ commands
-  pub charged : n .charged .0 ≡ charged past
-  pub discharged : n .discharged .0 ≡ discharged past
+  pub charged : n .charged ≡ charged past
+  pub discharged : n .discharged ≡ discharged past
   pub chargedBy : n .charged .0 ≤ 2_000_000 * bound
   pub dischargedBy : n .discharged .0 ≤ 2_000_000 * bound
 
@@ -56,7 +56,7 @@ pub record ShowsStores (battery : ℕ) (s : Stores) (past : List Accepted) : Typ
 pub record Timed (last : ℕ) (taken : List Measured) : Type 0 where
   pub by : AllBy last taken
   pub ordered : Ordered taken
-  pub mission : last ≤ missionTime
+  pub mission : last ≤ missionTime .0
 
 pub record Shows (r : Record) (l : Ledger) (past : List Accepted) : Type 0 where
   pub battery : T (isType (r .live .battery))

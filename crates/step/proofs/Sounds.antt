@@ -9,15 +9,17 @@ use native.Mathlib.Nat.{eq-or-lt-of-le, not-suc-le-zero, le-of-suc-le-suc}
 use borrow.Author.Tests.{eqb-false}
 use lib.Dec.{T, leb, eqb, leb→le, le→leb, ltb→lt, lt→ltb, eqb→eq}
 use lib.ListN.{getD}
+use Rattle.rules.specs.declared.units.Milliseconds.{Milliseconds}
 use Rattle.rules.specs.declared.tracking.Span.{Span}
 use Rattle.rules.specs.declared.tracking.Span.the-variants.{Idle, Beyond, Within}
 use Rattle.rules.specs.declared.tracking.Previous.{Previous}
 use Rattle.rules.specs.declared.tracking.Previous.the-variants.{Nothing, Frame}
 use Rattle.rules.specs.declared.battery.Record.{Record}
 use Rattle.rules.specs.Quantities.{isType}
+use Rattle.rules.specs.Test.{all}
 use Rattle.rules.specs.Shown.{keptOf}
 use Rattle.rules.specs.Soundness.{Sound, StartedBy, MeasuredBy, KeptInRange, NumbersBelow8}
-use Rattle.step.specs.Sound.{at, all, listOf, startedBy, measuredBy, currentKept, below8, liveTests, storesTests, soundLive, soundStores, sound}
+use Rattle.step.specs.Sound.{at, listOf, startedBy, measuredBy, currentKept, below8, liveTests, storesTests, soundLive, soundStores, sound}
 use Rattle.step.proofs.Bools.{and-iff, Each, all-each, all-places}
 
 -- ---- a battery type
@@ -61,12 +63,12 @@ below8-is (suc n) numbers = step (below8-is n numbers)
 
 -- ---- spans and the last measurement
 
-started-is : (last : ℕ) (s : Span) → T (startedBy last s) ↔ StartedBy last s
+started-is : (last : Milliseconds) (s : Span) → T (startedBy last s) ↔ StartedBy last s
 started-is last Idle = (λ h. tt, λ h. tt)
 started-is last (Beyond u) = (leb→le _ _, le→leb _ _)
 started-is last (Within u) = (leb→le _ _, le→leb _ _)
 
-measured-is : (last : ℕ) (p : Previous) → T (measuredBy last p) ↔ MeasuredBy last p
+measured-is : (last : Milliseconds) (p : Previous) → T (measuredBy last p) ↔ MeasuredBy last p
 measured-is last Nothing = (λ h. tt, λ h. tt)
 measured-is last (Frame t i) = (leb→le _ _, le→leb _ _)
 
@@ -77,11 +79,11 @@ kept-is (Frame t i) = (λ h. h, λ h. h)
 -- ---- the record
 
 module _ (r : Record) where
-  spans : T (all (listOf 8 (λ number. startedBy (r .live .last .0) (at (r .live .watch .protections) number .span))))
-      ↔ ((number : ℕ) → number < 8 → StartedBy (r .live .last .0) (keptOf r number .span))
+  spans : T (all (listOf 8 (λ number. startedBy (r .live .last) (at (r .live .watch .protections) number .span))))
+      ↔ ((number : ℕ) → number < 8 → StartedBy (r .live .last) (keptOf r number .span))
   spans =
-      let every = all-places 8 (λ number. startedBy (r .live .last .0) (at (r .live .watch .protections) number .span)) in
-      (λ h number k. started-is (r .live .last .0) (keptOf r number .span) .0 (every .0 h number k), λ f. every .1 (λ number k. started-is (r .live .last .0) (keptOf r number .span) .1 (f number k)))
+      let every = all-places 8 (λ number. startedBy (r .live .last) (at (r .live .watch .protections) number .span)) in
+      (λ h number k. started-is (r .live .last) (keptOf r number .span) .0 (every .0 h number k), λ f. every .1 (λ number k. started-is (r .live .last) (keptOf r number .span) .1 (f number k)))
 
   to : Each (liveTests (r .live)) → Each (storesTests (r .stores)) → Sound r
   to (low, (high, (last, (charged, (discharged, (mask, (measured, (current, (spans', _))))))))) (long, (short, (longs, (shorts, _)))) = record {
@@ -95,7 +97,7 @@ module _ (r : Record) where
     charged = leb→le _ _ charged;
     discharged = leb→le _ _ discharged;
     spans = spans .0 spans';
-    previous = measured-is (r .live .last .0) (r .live .watch .previous) .0 measured;
+    previous = measured-is (r .live .last) (r .live .watch .previous) .0 measured;
     current = kept-is (r .live .watch .previous) .0 current;
   }
 
@@ -114,7 +116,7 @@ module _ (r : Record) where
                 (
                   lt→ltb _ _ (s .mask),
                   (
-                    measured-is (r .live .last .0) (r .live .watch .previous) .1 (s .previous),
+                    measured-is (r .live .last) (r .live .watch .previous) .1 (s .previous),
                     (
                       kept-is (r .live .watch .previous) .1 (s .current),
                       (spans .1 (s .spans), tt),

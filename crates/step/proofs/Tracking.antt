@@ -12,6 +12,8 @@ use Rattle.rules.specs.declared.reading.Reading.{Reading}
 use Rattle.rules.specs.declared.tracking.Span.{Span}
 use Rattle.rules.specs.declared.tracking.Span.the-variants.{Idle, Beyond, Within}
 use Rattle.rules.specs.declared.tracking.ProtectionState.{ProtectionState}
+use Rattle.rules.specs.Quantities.{_≤ms_, elapsed}
+use Rattle.rules.specs.Soundness.{StartedBy}
 use Rattle.rules.specs.Test.{plausible}
 use Rattle.rules.specs.Protections.{Protection}
 use Rattle.rules.specs.Trips.{Measured, time, passes, reaches, endsNow, isTripped}
@@ -84,11 +86,11 @@ one-more d t a true none h = go (leb d (t - a))
     go false = refl
 one-more d t a true (some u) h = longer d t a u h
 
-reaches-is : (test : Reading → Bool) (d t : ℕ) (taken : List Measured) → Ordered taken → reaches test d t taken ≡ reached d t (startOf test taken)
+reaches-is : (test : Reading → Bool) (d t : Milliseconds) (taken : List Measured) → Ordered taken → reaches test d t taken ≡ reached (d .0) (t .0) (startOf test taken)
 reaches-is test d t [] o = refl
 reaches-is test d t (m ∷ taken) o =
-    ap (λ (x : Bool). passes test m && (leb d (t - time m) || x)) (reaches-is test d t taken (o .1))
-    ∙ one-more d t (time m) (passes test m) (startOf test taken) (start-by test (time m) taken (o .0))
+    ap (λ (x : Bool). passes test m && ((d ≤ms elapsed (m .at) t) || x)) (reaches-is test d t taken (o .1))
+    ∙ one-more (d .0) (t .0) (time m) (passes test m) (startOf test taken) (start-by test (time m) taken (o .0))
 
 -- ---- the two sides of a kept span
 
@@ -148,7 +150,7 @@ module _ (p : Protection) (apart : Apart p) (m : Measured) (taken : List Measure
   not-both b w = apart (m .reading) (and-iff (plausible (m .reading)) _ .0 b .1) (and-iff (plausible (m .reading)) _ .0 w .1)
 
   ends : (test : Reading → Bool) (d : Milliseconds) → endsNow test d (m ∷ taken) ≡ reached (d .0) (time m) (startOf test (m ∷ taken))
-  ends test d = reaches-is test (d .0) (time m) (m ∷ taken) o
+  ends test d = reaches-is test d (m .at) (m ∷ taken) o
 
   tracks-now : Tracks p s taken → Tracks p now (m ∷ taken)
   tracks-now k = record { beyond = beyond'; within = within'; tripped = tripped' }
@@ -171,14 +173,14 @@ module _ (p : Protection) (apart : Apart p) (m : Measured) (taken : List Measure
   tracks-next k = tracks-now k
 
 -- a kept span began by any bound that no measurement passes
-span-by : (bound : ℕ) (s : Span) → StartBy bound (beyondOf s) → StartBy bound (withinOf s) → Rattle.rules.specs.Soundness.StartedBy bound s
+span-by : (bound : Milliseconds) (s : Span) → StartBy (bound .0) (beyondOf s) → StartBy (bound .0) (withinOf s) → StartedBy bound s
 span-by bound Idle b w = tt
 span-by bound (Beyond u) b w = b
 span-by bound (Within u) b w = w
 
-pub tracks-by : (p : Protection) (s : ProtectionState) (taken : List Measured) (bound : ℕ) → AllBy bound taken → Tracks p s taken
-    → Rattle.rules.specs.Soundness.StartedBy bound (s .span)
+pub tracks-by : (p : Protection) (s : ProtectionState) (taken : List Measured) (bound : Milliseconds) → AllBy (bound .0) taken → Tracks p s taken
+    → StartedBy bound (s .span)
 tracks-by p s taken bound h k =
     span-by bound (s .span)
-    (subst (StartBy bound) (sym (k .beyond)) (start-by (p .beyond) bound taken h))
-    (subst (StartBy bound) (sym (k .within)) (start-by (p .within) bound taken h))
+    (subst (StartBy (bound .0)) (sym (k .beyond)) (start-by (p .beyond) (bound .0) taken h))
+    (subst (StartBy (bound .0)) (sym (k .within)) (start-by (p .within) (bound .0) taken h))

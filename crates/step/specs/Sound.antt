@@ -1,11 +1,10 @@
 -- Soundness of a record as a test that computes.
-use Prim.Native.Nat.{ℕ, zero, suc, _*_}
+use Prim.Native.Nat.{ℕ, zero, suc}
 use mathlib.Core.Bool.{Bool, true, _&&_}
 use mathlib.Core.List.{List, [], _∷_}
 use lib.Dec.{leb, ltb}
-use lib.IntN.{pos, negsuc}
 use lib.ListN.{getD}
-use lib.Signed.{leZ}
+use Rattle.rules.specs.declared.units.Milliseconds.{Milliseconds}
 use Rattle.rules.specs.declared.tracking.Span.{Span}
 use Rattle.rules.specs.declared.tracking.Span.the-variants.{Idle, Beyond, Within}
 use Rattle.rules.specs.declared.tracking.Previous.{Previous}
@@ -15,34 +14,32 @@ use Rattle.rules.specs.declared.tracking.Watch.{Watch}
 use Rattle.rules.specs.declared.stores.Stores.{Stores}
 use Rattle.rules.specs.declared.battery.Live.{Live}
 use Rattle.rules.specs.declared.battery.Record.{Record}
+use Rattle.rules.specs.Quantities.{_≤ms_, missionTime}
+use Rattle.rules.specs.Test.{all, currentInRange}
+use Rattle.rules.specs.Soundness.{accountLimit}
 use Rattle.step.specs.Fresh.{clearState}
 
 -- what is kept of a protection
 abbrev pub at : List ProtectionState → ℕ → ProtectionState
 at states number = getD states number clearState
 
--- every test of a list
-abbrev pub all : List Bool → Bool
-all [] = true
-all (test ∷ tests) = test && all tests
-
 -- a list of n, from what stands at each place
 abbrev pub listOf : {A : Type 0} → ℕ → (ℕ → A) → List A
 listOf zero f = []
 listOf (suc n) f = f zero ∷ listOf n (λ k. f (suc k))
 
-abbrev pub startedBy : ℕ → Span → Bool
+abbrev pub startedBy : Milliseconds → Span → Bool
 startedBy last Idle = true
-startedBy last (Beyond start) = leb (start .0) last
-startedBy last (Within start) = leb (start .0) last
+startedBy last (Beyond start) = start ≤ms last
+startedBy last (Within start) = start ≤ms last
 
-abbrev pub measuredBy : ℕ → Previous → Bool
+abbrev pub measuredBy : Milliseconds → Previous → Bool
 measuredBy last Nothing = true
-measuredBy last (Frame t i) = leb (t .0) last
+measuredBy last (Frame t i) = t ≤ms last
 
 abbrev pub currentKept : Previous → Bool
 currentKept Nothing = true
-currentKept (Frame t i) = leZ (negsuc 1_999_999) (i .0) && leZ (i .0) (pos 2_000_000)
+currentKept (Frame t i) = currentInRange i
 
 -- the numbers in the first places are at most 7
 abbrev pub below8 : ℕ → List ℕ → Bool
@@ -50,7 +47,7 @@ below8 zero numbers = true
 below8 (suc n) numbers = below8 n numbers && leb (getD numbers n 0) 7
 
 -- what a power on or a power loss writes anew, at a last time
-abbrev pub watchTests : ℕ → Watch → List Bool
+abbrev pub watchTests : Milliseconds → Watch → List Bool
 watchTests last w =
     ltb (w .mask) 8_192
     ∷ measuredBy last (w .previous)
@@ -62,10 +59,10 @@ abbrev pub liveTests : Live → List Bool
 liveTests l =
     leb 1 (l .battery)
     ∷ leb (l .battery) 3
-    ∷ leb (l .last .0) 345_600_000
-    ∷ leb (l .tally .charged .0) (2_000_000 * l .last .0)
-    ∷ leb (l .tally .discharged .0) (2_000_000 * l .last .0)
-    ∷ watchTests (l .last .0) (l .watch)
+    ∷ (l .last ≤ms missionTime)
+    ∷ leb (l .tally .charged .0) (accountLimit (l .last) .0)
+    ∷ leb (l .tally .discharged .0) (accountLimit (l .last) .0)
+    ∷ watchTests (l .last) (l .watch)
 
 abbrev pub storesTests : Stores → List Bool
 storesTests s =

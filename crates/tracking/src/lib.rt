@@ -1,7 +1,6 @@
 // One protection, tracked from one measurement to the next: its longest span that ends now, and whether it is tripped.
 ghost use mathlib.Core.Path.{_≡_};
-ghost use Prim.Native.Nat.{_-_};
-ghost use Rattle.rules.specs.Quantities.{ms};
+ghost use Rattle.rules.specs.Quantities.{elapsed as elapsedOf};
 ghost use Rattle.step.specs.Track.{beyondSince, withinSince, spanAt, trippedAt, tracked};
 ghost use Rattle.tracking.specs.Spans.{isWithin};
 use rules::tracking::ProtectionState;
@@ -42,7 +41,7 @@ fn span_at(beyond: bool, within: bool, t: Milliseconds, span: Span) -> Span
 
 // Zero where the start is later.
 pub fn elapsed(start: Milliseconds, t: Milliseconds) -> Milliseconds
-    ensures { λ d. ⌜ d ≡ ms (t .0 - start .0) ⌝ }
+    ensures { λ d. ⌜ d ≡ elapsedOf start t ⌝ }
 {
     if start.0 <= t.0 {
         return Milliseconds(t.0 - start.0);

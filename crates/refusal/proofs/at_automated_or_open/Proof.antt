@@ -27,10 +27,10 @@ returns-2 : tie.Need-returns-2
 returns-2 c = search needs
 
 returns-3 : tie.Need-returns-3
-returns-3 c = rw (c .before .enum-told3 .given .1) (c .below-ceiling .ensures)
+returns-3 c = (rw (c .before .enum-told3 .given .1) (c .below-ceiling .ensures), rw (c .before .enum-told3 .given .1) (c .below-ceiling .ensures))
 
 returns-4 : tie.Need-returns-4
-returns-4 c = rw (c .before .enum-told4 .given .1) (c .below-ceiling2 .ensures)
+returns-4 c = (rw (c .before .enum-told4 .given .1) (c .below-ceiling2 .ensures), rw (c .before .enum-told4 .given .1) (c .below-ceiling2 .ensures))
 
 pub at-automated-or-open-spec : {M : Type 1} → statement M
 at-automated-or-open-spec =

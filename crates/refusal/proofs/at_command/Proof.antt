@@ -21,10 +21,10 @@ at-force-closed-requires : tie.Need-at-force-closed-requires
 at-force-closed-requires c κs = search needs
 
 returns : tie.Need-returns
-returns c = rw (c .before .enum-told .given .1) (c .at-automated-or-open .ensures)
+returns c = rw (c .before .enum-told .given .1) (c .at-automated-or-open .ensures .0)
 
 returns-2 : tie.Need-returns-2
-returns-2 c = rw (c .before .enum-told2 .given .1) (c .at-automated-or-open2 .ensures)
+returns-2 c = rw (c .before .enum-told2 .given .1) (c .at-automated-or-open2 .ensures .1)
 
 returns-3 : tie.Need-returns-3
 returns-3 c = rw (c .before .enum-told3 .given .1) (c .at-force-closed .ensures)

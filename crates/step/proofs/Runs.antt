@@ -7,9 +7,11 @@ use native.Mathlib.Omega.{arith}
 use lib.Dec.{T}
 use Rattle.rules.specs.declared.units.Milliseconds.{Milliseconds}
 use Rattle.rules.specs.declared.tracking.Previous.the-variants.{Nothing, Frame}
+use Rattle.rules.specs.declared.states.State.{State}
 use Rattle.rules.specs.declared.calls.Event.{Event}
 use Rattle.rules.specs.declared.calls.Event.the-variants.{Measurement, PowerOn, PowerLoss, ContactorCommand, StateRequest, BattleOverride, ClearLongTerm}
 use Rattle.rules.specs.declared.battery.Record.{Record}
+use Rattle.rules.specs.Refusals.{refusal as refusalByTable}
 use Rattle.rules.specs.Test.{plausible}
 use Rattle.rules.specs.Protections.{protection}
 use Rattle.rules.specs.Trips.{Measured}
@@ -17,7 +19,7 @@ use Rattle.rules.specs.Ledger.{Ledger, refused, accept, ifAccepted, enter, ledg
 use Rattle.rules.specs.Soundness.{Sound, MeasuredBy, KeptInRange}
 use Rattle.rules.proofs.Mask.{mask-13-bits}
 use Rattle.step.specs.Sound.{at, sound}
-use Rattle.step.specs.Refusal.{refusal, refusalLive}
+use Rattle.step.specs.Refusal.{refusal}
 use Rattle.step.specs.Call.{advance, answer, call, run, answers}
 use Rattle.step.proofs.Bools.{is-true}
 use Rattle.step.proofs.Tracking.{AllBy, tracks-by}
@@ -71,11 +73,14 @@ shows-sound r l past k = record {
 
 -- ---- one call
 
+same-table : {s s' : State} {last last' : Milliseconds} {commands commands' : ℕ} (e : Event) → s ≡ s' → last ≡ last' → commands ≡ commands'
+    → refusalByTable s last commands e ≡ refusalByTable s' last' commands' e
+same-table e p q r = rw (p, q, r) refl
+
 module _ (r : Record) (l : Ledger) (past : List Accepted) (k : Shows r l past) where
   pub same-refusal : (e : Event) → refusal r e ≡ refused l e
   same-refusal e =
-      ap (λ (b : Bool). cond b (refusalLive (r .live) e) 5) (is-true (sound r) .0 (sound-is r .1 (shows-sound r l past k)))
-      ∙ rw (k .control .state, k .last, k .tally .counted) refl
+      rw (is-true (sound r) .0 (sound-is r .1 (shows-sound r l past k))) (same-table e (k .control .state) (k .last) (k .tally .counted))
 
   pub shows-call : (e : Event) → Shows (call r e .after) (enter l e) (ifAccepted (refused l e) (entered l e ∷ past) past)
   shows-call e = go (refused l e) refl

@@ -24,7 +24,7 @@ use Rattle.rules.specs.Soundness.{Sound}
 use Rattle.rules.specs.Claims.{AfterList}
 use Rattle.export.specs.Claims.{StoresExported}
 use Rattle.export.proofs.Allowed.{CodeLong, CodeShort}
-use Rattle.roundtrip.specs.Chains.{AllInRange, ReadsBack, ReadAs, ReadToEnd, Wrote, WrittenAgain, Whole}
+use Rattle.roundtrip.specs.Chains.{ReadsBack, ReadAs, ReadToEnd, Wrote, WrittenAgain, Whole}
 use Rattle.roundtrip.proofs.Events.{events, reader as event-reader, writer as event-writer, events-written-then-read, event-read-then-written, event-log-whole}
 use Rattle.roundtrip.proofs.Entries.{entries, reader as entry-reader, writer as entry-writer, entries-written-then-read, entry-read-then-written, entry-log-whole}
 use Rattle.roundtrip.proofs.Exports.{long-export-reads-back, short-export-reads-back}
@@ -112,11 +112,11 @@ module _
 module _ (κs : Lfts 1) where
   -- ---- "each event or stored record written reads back as itself": any number of them, written one after the other
 
-  pub events-read-back : {es : List Event} {before after : List ℕ} {used : ℕ} → AllInRange events es → Wrote events (event-writer κs) es before after used
+  pub events-read-back : {es : List Event} {before after : List ℕ} {used : ℕ} → Wrote events (event-writer κs) es before after used
       → (log : RefT (List ℕ)) → log .now ≡ take used after → ReadsBack events (event-reader κs) log 0 es
   events-read-back = events-written-then-read κs
 
-  pub entries-read-back : {es : List Entry} {before after : List ℕ} {used : ℕ} → AllInRange entries es → Wrote entries (entry-writer κs) es before after used
+  pub entries-read-back : {es : List Entry} {before after : List ℕ} {used : ℕ} → Wrote entries (entry-writer κs) es before after used
       → (log : RefT (List ℕ)) → log .now ≡ take used after → ReadsBack entries (entry-reader κs) log 0 es
   entries-read-back = entries-written-then-read κs
 

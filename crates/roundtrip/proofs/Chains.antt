@@ -73,13 +73,17 @@ module _ (I : Items) where
         rw (w .1) (ap (λ (k : ℕ). take (k + used) (itemBytes I x ++ rest)) (w .0)
         ∙ (take-append-add (itemBytes I x) rest used ∙ ap (λ (l : List ℕ). itemBytes I x ++ l) (wrote-all more)))
 
+    wrote-range : {xs : List (I .Item)} {before after : List ℕ} {used : ℕ} → Wrote I W xs before after used → AllInRange I xs
+    wrote-range none = tt
+    wrote-range (wrote-next g more) = (W .ranged g, wrote-range more)
+
   -- ---- both
 
   module _ (R : Reader I) (W : Writer I) where
-    -- Items in range, written one after the other, read back in order, each with the position right after it, and then "end".
-    pub written-then-read : {xs : List (I .Item)} {before after : List ℕ} {used : ℕ} → AllInRange I xs → Wrote I W xs before after used
+    -- Items written one after the other read back in order, each with the position right after it, and then "end".
+    pub written-then-read : {xs : List (I .Item)} {before after : List ℕ} {used : ℕ} → Wrote I W xs before after used
         → (log : RefT (List ℕ)) → log .now ≡ take used after → ReadsBack I R log 0 xs
-    written-then-read {xs} h w log e = reads-back R log xs 0 h (e ∙ wrote-all W w)
+    written-then-read {xs} w log e = reads-back R log xs 0 (wrote-range W w) (e ∙ wrote-all W w)
 
     answered : (r : Written) (n : ℕ) → answerOfWrite r ≡ bytes n → r ≡ Bytes n
     answered (Bytes m) n e = ap Bytes (cc)

@@ -5,23 +5,24 @@ use mathlib.Core.List.{List}
 use mathlib.Core.Path.{_≡_, refl, sym, _∙_}
 use native.Mathlib.Decide.{decLe}
 use native.Mathlib.Omega.{arith}
-use borrow.Author.Tests.{le-ltb}
+use borrow.Author.Tests.{lt-ltb, le-ltb}
 use lib.ListN.{length, take}
 use denote.Ref.{RefT}
 use contract.Lifetimes.{Lfts}
 use Rattle.rules.proofs.Injective.{read-entry-injective}
-use Rattle.rules.specs.Bytes.{isIn, InRange, entryForms, entryBytes, protectionOf, entryWriteRefusal}
-use Rattle.rules.specs.Numbers.{entryKind, entryValues, answerOfReadEntry}
+use Rattle.rules.specs.Bytes.{isIn, InRange, entryForms, entryBytes, protectionOf, entryWriteRefusal, writtenOr}
+use Rattle.rules.specs.Numbers.{entryKind, entryValues, answerOfReadEntry, bytes}
 use Rattle.rules.specs.declared.answers.ReadEntry.{ReadEntry}
 use Rattle.rules.specs.declared.answers.ReadEntry.the-variants.{Found, End}
 use Rattle.rules.specs.declared.stores.Entry.{Entry}
 use Rattle.rules.specs.declared.stores.Entry.the-variants.{Trip, Release}
-use Rattle.words.proofs.Ranges.{above}
+use Rattle.words.proofs.Ranges.{above, within}
 use Rattle.words.specs.Decoding.{numbersFrom}
 use Rattle.entries.proofs.read.read_entry.Reads as read-entry
 use Rattle.entries.proofs.write.write_entry.Reads as write-entry
+use Rattle.entries.specs.Machine.{EntryInMachine}
 use Rattle.roundtrip.proofs.Chains.{written-then-read, read-then-written, whole-log}
-use Rattle.roundtrip.specs.Chains.{Items, Reader, Writer, bytesOf, AllInRange, ReadsBack, ReadToEnd, Wrote, WrittenAgain, Whole}
+use Rattle.roundtrip.specs.Chains.{Items, Reader, Writer, bytesOf, ReadsBack, ReadToEnd, Wrote, WrittenAgain, Whole}
 
 abbrev pub entries : Items
 entries = record { Item = Entry; forms = entryForms; kind = entryKind; values = entryValues }
@@ -46,6 +47,23 @@ pub entry-fits : (e : Entry) (buffer : List ℕ) → InRange entryForms (entryKi
     → entryWriteRefusal e buffer ≡ 0
 entry-fits e buffer range h = rw (le-ltb 7 (protectionOf e) (protection-most e range), le-ltb (length buffer) (length (entryBytes e)) h)
 
+-- nor is the protection number of an entry that the writer accepts
+pub protection-accepted : (e : Entry) (buffer : List ℕ) (n : ℕ) → bytes n ≡ writtenOr (entryWriteRefusal e buffer) (length (entryBytes e)) → protectionOf e ≤ 7
+protection-accepted e buffer n accepted = go (decLe (protectionOf e) 7)
+  where
+    go : Dec (protectionOf e ≤ 7) → protectionOf e ≤ 7
+    go (yes k) = k
+    go (no k) =
+        let refused4 = rw (lt-ltb 7 (protectionOf e) (omega arith)) at accepted in
+        absurd (let z : _≡_ {A = ℕ} 0 1 = cc in omega arith)
+
+-- an entry with its fields' types and a protection number up to 7 is in range
+pub entry-range : (e : Entry) → EntryInMachine e → protectionOf e ≤ 7 → InRange entryForms (entryKind e) (entryValues e)
+entry-range (Trip t p v) machine most =
+    record { known = refl; fields = (machine .0, ((machine .1, within 8 0 p (omega arith) (omega arith)), (machine .2, tt))) }
+entry-range (Release t p) machine most =
+    record { known = refl; fields = (machine .0, ((machine .1, within 8 0 p (omega arith) (omega arith)), tt)) }
+
 module _ (κs : Lfts 1) where
   -- what `read_entry` may answer, and what `write_entry` may answer and leave, as their contracts have it
   abbrev pub reader : Reader entries
@@ -69,11 +87,12 @@ module _ (κs : Lfts 1) where
     refusal = entryWriteRefusal;
     fits = entry-fits;
     Allows = λ e before r after. write-entry.Post κs (e, (before, tt)) r (e, (after, tt));
-    right = λ allowed. allowed;
+    right = λ allowed. (allowed .0, allowed .1 .0);
+    ranged = λ {a = e} {before} {n} allowed. entry-range e (allowed .1 .1) (protection-accepted e (before .now) n (allowed .0));
   }
 
-  -- Entries in range, written one after the other, read back in order, each with the position right after it, and then "end".
-  pub entries-written-then-read : {es : List Entry} {before after : List ℕ} {used : ℕ} → AllInRange entries es → Wrote entries writer es before after used
+  -- Entries written one after the other read back in order, each with the position right after it, and then "end".
+  pub entries-written-then-read : {es : List Entry} {before after : List ℕ} {used : ℕ} → Wrote entries writer es before after used
       → (log : RefT (List ℕ)) → log .now ≡ take used after → ReadsBack entries reader log 0 es
   entries-written-then-read = written-then-read entries reader writer
 

@@ -15,7 +15,7 @@ use Rattle.rules.specs.declared.calls.Event.{Event}
 use Rattle.events.proofs.read.read_event.Reads as read-event
 use Rattle.events.proofs.write.write_event.Reads as write-event
 use Rattle.roundtrip.proofs.Chains.{written-then-read, read-then-written, whole-log}
-use Rattle.roundtrip.specs.Chains.{Items, Reader, Writer, bytesOf, AllInRange, ReadsBack, ReadToEnd, Wrote, WrittenAgain, Whole}
+use Rattle.roundtrip.specs.Chains.{Items, Reader, Writer, bytesOf, ReadsBack, ReadToEnd, Wrote, WrittenAgain, Whole}
 
 abbrev pub events : Items
 events = record { Item = Event; forms = eventForms; kind = eventKind; values = eventValues }
@@ -50,11 +50,12 @@ module _ (κs : Lfts 1) where
     refusal = eventWriteRefusal;
     fits = λ e buffer range. event-fits e buffer;
     Allows = λ e before r after. write-event.Post κs (e, (before, tt)) r (e, (after, tt));
-    right = λ allowed. allowed;
+    right = λ allowed. (allowed .0, allowed .1 .0);
+    ranged = λ allowed. allowed .1 .1;
   }
 
-  -- Events in range, written one after the other, read back in order, each with the position right after it, and then "end".
-  pub events-written-then-read : {es : List Event} {before after : List ℕ} {used : ℕ} → AllInRange events es → Wrote events writer es before after used
+  -- Events written one after the other read back in order, each with the position right after it, and then "end".
+  pub events-written-then-read : {es : List Event} {before after : List ℕ} {used : ℕ} → Wrote events writer es before after used
       → (log : RefT (List ℕ)) → log .now ≡ take used after → ReadsBack events reader log 0 es
   events-written-then-read = written-then-read events reader writer
 

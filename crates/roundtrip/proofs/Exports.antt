@@ -17,25 +17,23 @@ use Rattle.rules.specs.Shown.{firstPlaces, longEntry, longEntries, shortEntry, 
 use Rattle.rules.specs.Soundness.{NumbersBelow8}
 use Rattle.rules.specs.declared.battery.Record.{Record}
 use Rattle.rules.specs.declared.stores.Entry.{Entry}
+use Rattle.rules.specs.declared.stores.Entry.the-variants.{Trip, Release}
 use Rattle.rules.specs.declared.stores.LongTerm.{LongTerm}
 use Rattle.rules.specs.declared.stores.ShortTerm.{ShortTerm}
 use Rattle.rules.specs.declared.units.Milliseconds.{Milliseconds}
-use Rattle.words.proofs.Ranges.{within}
 use Rattle.export.proofs.Allowed.{CodeLong, CodeShort, long-wrote, short-wrote}
 use Rattle.export.specs.Exports.{InMachine}
 use Rattle.export.specs.Exports.{allBytes as exportBytes}
 use Rattle.roundtrip.proofs.Chains.{all-read}
-use Rattle.roundtrip.proofs.Entries.{entries, entry-due, reader}
+use Rattle.roundtrip.proofs.Entries.{entries, entry-due, entry-range, reader}
 use Rattle.roundtrip.specs.Chains.{allBytes, AllInRange, ReadAs}
 
 -- ---- the entries of a store are in range
 
-entry-range : (release : Bool) (t : Milliseconds) (number : ℕ) (value : ℤ) → t .0 < 4_294_967_296 → number ≤ 7 → SFits w32 value
+stored-range : (release : Bool) (t : Milliseconds) (number : ℕ) (value : ℤ) → t .0 < 4_294_967_296 → number ≤ 7 → SFits w32 value
     → InRange entryForms (entryKind (entryOf release t number value)) (entryValues (entryOf release t number value))
-entry-range true t number value time listed fits =
-    record { known = refl; fields = (time, ((omega (arith, listed), within 8 0 number (omega arith) (omega (arith, listed))), tt)) }
-entry-range false t number value time listed fits =
-    record { known = refl; fields = (time, ((omega (arith, listed), within 8 0 number (omega arith) (omega (arith, listed))), (fits, tt))) }
+stored-range true t number value time listed fits = entry-range (Release t number) (time, omega arith) listed
+stored-range false t number value time listed fits = entry-range (Trip t number value) (time, omega arith, fits) listed
 
 range-append : (xs ys : List Entry) → AllInRange entries xs → AllInRange entries ys → AllInRange entries (xs ++ ys)
 range-append [] ys f g = g
@@ -50,12 +48,12 @@ range-first place (suc n) each =
 long-range : (s : LongTerm) → NumbersBelow8 (s .count) (s .protections) → InMachine (s .times) (s .values) → AllInRange entries (longEntries s)
 unfolding longEntries
 long-range s numbers machine =
-    range-first (longEntry s) (s .count) (λ i h. entry-range false _ _ _ (machine i .0) (numbers i h) (machine i .1))
+    range-first (longEntry s) (s .count) (λ i h. stored-range false _ _ _ (machine i .0) (numbers i h) (machine i .1))
 
 short-range : (s : ShortTerm) → NumbersBelow8 (s .count) (s .protections) → InMachine (s .times) (s .values) → AllInRange entries (shortEntries s)
 unfolding shortEntries
 short-range s numbers machine =
-    range-first (shortEntry s) (s .count) (λ i h. entry-range (getD (s .releases) i false) _ _ _ (machine i .0) (numbers i h) (machine i .1))
+    range-first (shortEntry s) (s .count) (λ i h. stored-range (getD (s .releases) i false) _ _ _ (machine i .0) (numbers i h) (machine i .1))
 
 -- ---- and the bytes due are those of the round trips
 

@@ -35,7 +35,8 @@ pub record Reader (I : Items) : Type 1 where
   pub right : {log : RefT (List ℕ)} {at : ℕ} {r : Answer} → Allows log at r → answer r ≡ readAt (I .forms) (log .now) at
   pub logged : {log : RefT (List ℕ)} {at : ℕ} {r : Answer} → Allows log at r → AreBytes (log .now)
 
--- A writer of them: the bytes due, the refusal, and what its contract allows, as item, buffer before, answer and buffer after.
+-- A writer of them: the bytes due, the refusal, and what its contract allows, as item, buffer before, answer and buffer after. What it
+-- accepts is in range: its contract says so of the types of its argument.
 pub record Writer (I : Items) : Type 1 where
   pub due : I .Item → List ℕ
   pub is-due : (a : I .Item) → due a ≡ bytesOf (I .forms) (I .kind a) (I .values a)
@@ -45,6 +46,7 @@ pub record Writer (I : Items) : Type 1 where
   pub right : {a : I .Item} {before after : RefT (List ℕ)} {r : Written} → Allows a before r after
       → (answerOfWrite r ≡ writtenOr (refusal a (before .now)) (length (due a)))
       × (after .now ≡ bufferAfter (refusal a (before .now)) (due a) (before .now))
+  pub ranged : {a : I .Item} {before after : RefT (List ℕ)} {n : ℕ} → Allows a before (Bytes n) after → InRange (I .forms) (I .kind a) (I .values a)
 
 module _ (I : Items) where
   abbrev pub itemBytes : I .Item → List ℕ

@@ -8,14 +8,6 @@ use crate::print;
 use log::reader;
 use rules::answers::ReadEvent;
 
-fn moved(log: &[u8], position: usize) -> usize
-    ensures { λ n. ⌜ n ≡ nextPosition (now (log .entry)) position ⌝ }
-{
-    let mut r = reader::starting_at(log, position);
-    reader::next(&mut r);
-    r.position
-}
-
 fn rest_at(log: &[u8], position: usize) -> &[u8]
     ensures { λ s. ⌜ now s ≡ drop position (now (log .entry)) ⌝ }
 {
@@ -38,16 +30,29 @@ fn print_answer(a: ReadEvent) {
     }
 }
 
-fn step(log: &[u8], at: usize) -> usize {
-    print_answer(reader::event_at(log, at));
-    let next = moved(log, at);
+// A reader put where this one stands has a remainder of the same length.
+fn print_read<'a>(log: &'a [u8], a: ReadEvent, position: usize, rest: &'a [u8]) {
+    print_answer(a);
     print::text(b", position ");
-    print::number(next as u64);
-    let rest = rest_at(log, next);
+    print::number(position as u64);
     print::text(b", rest ");
     print::number(rest.len() as u64);
+    let other = rest_at(log, position);
+    if other.len() != rest.len() {
+        print::text(b", but from there ");
+        print::number(other.len() as u64);
+    }
     print::text(b"\n");
-    next
+}
+
+// One call gives the answer and the remainder, and moves the reader.
+fn step(log: &[u8], position: usize) -> usize
+    ensures { λ n. ⌜ n ≡ nextPosition (now (log .entry)) position ⌝ }
+{
+    let mut r = reader::starting_at(log, position);
+    let n = reader::next(&mut r);
+    print_read(log, n.answer, r.position, n.rest);
+    r.position
 }
 
 // The events stand after the type byte.

@@ -1,6 +1,6 @@
 #!/usr/bin/env python3
 """engine_test.py VECTORS MODEL: writes what crates/engine_test runs on and must print. It runs on the logs of VECTORS, on logs made here
-that show one thing each, and on a table of records for `stdin`. The text is what a reader answers
+that show one thing each, on the pairs of `alike`, and on a table of records for `stdin`. The text is what a reader answers
 step by step on the first two logs, by document 01's lengths; what MODEL (peer's `model`, written from document 01 alone) holds after each
 log made here and the vectors' .view files, each view with the number of entries in both stores after it; then the records, judged here by
 document 01's list "Unsound". Nothing of the engine's own is read."""
@@ -9,41 +9,14 @@ import struct
 import subprocess
 import sys
 
+sys.dont_write_bytecode = True
+import alike  # noqa: E402
+from calls import clear, command, measurement, override, power_loss, power_on, request  # noqa: E402
+
 HERE = pathlib.Path(__file__).resolve().parent.parent / "crates" / "engine_test"
 
 
-# ---- logs, by the layout of "Seven kinds of call"
-
-def measurement(t, cells=3300, current=0, temperatures=250):
-    """Cells and temperatures: a value for all of them, or one for each."""
-    cells = [cells] * 8 if isinstance(cells, int) else cells
-    temperatures = [temperatures] * 4 if isinstance(temperatures, int) else temperatures
-    return struct.pack("<BI8Hi4h", 1, t, *cells, current, *temperatures)
-
-
-def power_on(t):
-    return struct.pack("<BI", 2, t)
-
-
-def power_loss(t):
-    return struct.pack("<BI", 3, t)
-
-
-def command(t, which):
-    return struct.pack("<BIB", 4, t, which)
-
-
-def request(t, state):
-    return struct.pack("<BIB", 5, t, state)
-
-
-def override(t, on):
-    return struct.pack("<BIB", 6, t, on)
-
-
-def clear(t):
-    return struct.pack("<BI", 7, t)
-
+# ---- logs
 
 def short_circuits(count):
     """Trips of protection 5, each of another value, each released 1,000 ms after its first frame within."""
@@ -263,16 +236,23 @@ def step_lines(events):
         yield f"{answer}, position {at}, rest {len(log) - at}\n"
 
 
+def made(model):
+    """Each log made here or by `alike`, and what the model holds after it."""
+    for name, events in LOGS.items():
+        log = bytes([1]) + b"".join(events)
+        yield name, log, subprocess.run([model, "--view"], input=log, capture_output=True, check=True).stdout.decode()
+    for name, log, _, shown in alike.checked(model):
+        yield name, log, shown
+
+
 def main():
     vectors, model = pathlib.Path(sys.argv[1]), sys.argv[2]
     names, text = [], []
     for name, events in STEPS.items():
         text += [f"{name}.log\n", *step_lines(events)]
-    for name, events in LOGS.items():
-        log = bytes([1]) + b"".join(events)
+    for name, log, shown in made(model):
         (HERE / "data" / f"{name}.log").write_bytes(log)
         names.append(f"{name}.log")
-        shown = subprocess.run([model, "--view"], input=log, capture_output=True, check=True).stdout.decode()
         text.append(f"{name}.log\n{counted(shown)}")
         judge(name, text[-1])
     for log in sorted(vectors.glob("*.log")):

@@ -1,0 +1,203 @@
+#!/usr/bin/env python3
+"""Two lists of calls for a battery of type 3, alike in all but the on or off values of their override calls, that show what demand 3 says
+of two such runs: `alike_first` and `alike_second`; and up to where the contactors are last apart `apart_first` and `apart_second`.
+`checked` gives them as logs with what MODEL (peer's `model`) prints for each and holds after it, once these are as document 01 says.
+alike.py MODEL: checks them, and that the check refuses each of the pairs that `spoiled` makes."""
+import itertools
+import subprocess
+import sys
+
+sys.dont_write_bytecode = True
+from calls import clear, command, measurement, override, power_loss, power_on, request  # noqa: E402
+
+LOW = [1699] + [3300] * 7  # beyond of 1 and, by the spread, of 7
+COLD = [-1, 20, 20, 20]  # with a current above 500, beyond of 3
+
+# The calls of both lists; an override call is (time, value in the first, value in the second).
+FIRST_SESSION = [
+    measurement(0), (0, 1, 0),  # 8: Unpowered
+    power_on(0), power_on(0),  # 8: powered
+    (100, 0, 1), command(100, 1), clear(100),  # 10, 10, 10: Dormant
+    request(200, 3), request(200, 1), request(200, 2),  # 9: Dormant to Maintenance
+    (300, 0, 1), measurement(1000, current=60_000), measurement(3000, current=60_000),
+    command(3000, 2), clear(3000), command(3000, 1), command(3000, 0),  # 10, 10: Operational
+    measurement(2999), (2999, 1, 0), measurement(345_600_001), (345_600_001, 1, 0),  # 6, 6, 7, 7
+    measurement(10_000, current=-180_001), measurement(40_500, current=-180_001),  # 6 trips: liftable
+    measurement(41_000, current=-1_100_001),  # 5 trips: not liftable
+    measurement(42_000, current=-180_000), measurement(43_000, current=-1000), measurement(52_000, current=-1000),  # 5 and 6 are released
+    (53_000, 1, 0), measurement(54_000, LOW), measurement(56_000, LOW), measurement(64_000, LOW),  # 1 trips, then 7: liftable
+    (64_000, 0, 0), (64_000, 1, 1),
+    request(65_000, 1), request(65_000, 2),  # entering Dormant sets override off
+    request(66_000, 3), command(66_000, 2), (66_000, 0, 1), measurement(66_500, LOW), (67_000, 1, 0),
+    clear(67_000), request(67_000, 1),  # 9: Maintenance to Dormant
+    measurement(70_000, current=501, temperatures=COLD), measurement(71_000, current=501, temperatures=COLD),  # 3 trips: liftable
+    measurement(72_000, 3651), measurement(72_500, 3651),  # 1 is released, then 0 trips: not liftable
+    power_loss(80_000), command(80_000, 0),  # 8
+]
+SECOND_SESSION = [
+    power_on(90_000), measurement(90_500, current=-30_000), request(91_000, 2), (91_000, 0, 1),
+    measurement(92_000, 3651), measurement(92_500, 3651),  # 0 trips
+    measurement(93_000), measurement(95_000, current=95_000),  # 0 is released
+    measurement(98_000, current=95_000), request(98_000, 3), command(98_000, 2),  # 4 trips: not liftable
+    measurement(99_000, current=-180_001), measurement(109_000, current=-180_001),  # 4 is released
+    measurement(129_500, current=-180_001), measurement(130_000, LOW), measurement(132_000, LOW),  # 6 trips, then 1
+    measurement(140_000, LOW),  # 7 trips and 6 is released
+    (150_000, 1, 0), measurement(160_000, 3000, 20_000), measurement(162_000, 3000, 20_000),  # 1 is released
+    (163_000, 0, 1), command(163_500, 1), command(164_000, 2), measurement(165_000, LOW, -40_000), measurement(167_000, LOW, -40_000),
+    clear(166_000), (166_000, 1, 0), (170_000, 1, 0), (170_000, 0, 1),  # 6, 6
+]
+FAILURE = [
+    measurement(180_000, [3300] * 7 + [499], 2_000_001, [250, 250, 250, 881]),  # sensors 7, 8 and 12
+    request(179_999, 2), command(180_000, 2), request(180_000, 1), (180_000, 0, 1),  # 6; 9
+]
+PAIRS = {"apart": FIRST_SESSION + SECOND_SESSION, "alike": FIRST_SESSION + SECOND_SESSION + FAILURE}
+
+
+def run(model, calls, which):
+    """One of the two runs: its calls, and the text and the record that follow from them."""
+    events = [override(call[0], call[1 + which]) if isinstance(call, tuple) else call for call in calls]
+    log = bytes([3]) + b"".join(events)
+    shown = [subprocess.run([model, *option], input=log, capture_output=True, check=True).stdout.decode() for option in ([], ["--view"])]
+    return events, *shown
+
+
+# ---- what document 01 says of two runs
+
+def rows(text):
+    """Per event: number, refusal, state, contactor, tripped mask, override, test."""
+    return [[int(x, 16 if i == 4 else 10) for i, x in enumerate(line.split())] for line in text.splitlines()[:-1]]
+
+
+def held(events, answers):
+    """Command and override after each call, by the calls that were accepted and the states that they led to."""
+    which, on, state = 0, 0, 0
+    for event, row in zip(events, answers):
+        if row[1] == 0:
+            if event[0] in (2, 3) or row[2] != state:
+                which, on = 0, on * (row[2] > 1)
+            which = event[5] if event[0] == 4 else which
+            on = event[5] if event[0] == 6 else on
+        state = row[2]
+        yield which, on
+
+
+def check_calls(first, second):
+    """One length; in order the same kind and arguments, save the on or off value of an override call."""
+    assert len(first) == len(second)
+    for a, b in zip(first, second):
+        assert a == b or a[0] == b[0] == 6 and a[:5] == b[:5] and {a[5], b[5]} == {0, 1}, (a, b)
+
+
+def check_answers(first, second):
+    """The two texts agree in all but override and contactor; each of these is as document 01 says for its list, and the contactors differ
+    exactly when demand 3 says so. Gives what was met on the way."""
+    answers, others = rows(first[1]), rows(second[1])
+    assert len(answers) == len(others) == len(first[0]) and first[1].splitlines()[-1] == second[1].splitlines()[-1]
+    met = set()
+    for a, b, (which, on), (_, other) in zip(answers, others, held(first[0], answers), held(second[0], others)):
+        assert [a[i] for i in (0, 1, 2, 4, 6)] == [b[i] for i in (0, 1, 2, 4, 6)] and (a[5], b[5]) == (on, other), (a, b)
+        state, tripped, permit = a[2], a[4], a[6] == 1 and (a[2], which) in ((2, 0), (3, 2))
+        liftable = tripped & ~0xCA == 0
+        for row in a, b:
+            assert row[3] == int(permit and (tripped == 0 or liftable and row[5] == 1)), row
+        assert (a[3] != b[3]) == (on != other and permit and tripped != 0 and liftable), (a, b)
+        met |= {("refusal", a[1]), ("state", state)}
+        if permit and tripped:
+            met |= {("liftable", state, on, other) if liftable else ("not liftable", on, other)}
+    return met
+
+
+def check(first, second):
+    """Gives what the pair shows: what was met in the answers, and the fields of the first record."""
+    check_calls(first[0], second[0])
+    met = check_answers(first, second)
+    a, b = (dict(line.split(" ", 1) for line in view.splitlines()) for _, _, view in (first, second))
+    assert a.keys() == b.keys() and [n for n in a if a[n] != b[n] and n not in ("override", "contactor")] == [], (a, b)
+    for shown, (_, text, _) in (a, first), (b, second):
+        assert [int(shown[n]) for n in ("state", "contactor", "override", "test")] == [rows(text)[-1][i] for i in (2, 3, 5, 6)], shown
+        assert text.splitlines()[-1].split()[:3] == ["end", shown["charged"], shown["discharged"]], shown
+    return met, a
+
+
+def entries(export):
+    """Kind and protection of each entry of an export in hex."""
+    data = bytes.fromhex(export)
+    while data:
+        yield data[0], data[5]
+        data = data[{0x21: 10, 0x22: 6}[data[0]]:]
+
+
+def check_shown(name, met, record):
+    """That a pair shows what it is for, in its answers and in its last record, where nothing is 0 that could be."""
+    wanted = {("refusal", n) for n in (0, 6, 7, 8, 9, 10)} | {("state", n) for n in range(4)}
+    wanted |= {("liftable", 2, *two) for two in itertools.product((0, 1), repeat=2)}
+    wanted |= {("liftable", 3, 0, 1), ("liftable", 3, 1, 0), ("not liftable", 0, 1), ("not liftable", 1, 0)}
+    assert wanted <= met, wanted - met
+    zeros = [n for n, value in record.items() if value.strip("0") in ("", "-")]
+    assert set(zeros) == {"override", "contactor", *(("failed", "failed_count") if name == "apart" else ())}, zeros
+    assert 1 < int(record["commands"]), record
+    for store in "long", "short":
+        held = list(entries(record[store]))
+        assert {number in (1, 3, 6, 7) for kind, number in held if kind == 0x21} == {False, True}, held
+    assert any(kind == 0x22 for kind, _ in held), held
+
+
+def checked(model):
+    """Each log's name, its bytes, its text and its view."""
+    for name, calls in PAIRS.items():
+        both = [run(model, calls, which) for which in (0, 1)]
+        check_shown(name, *check(*both))
+        for which, (events, text, view) in zip(("first", "second"), both):
+            yield f"{name}_{which}", bytes([3]) + b"".join(events), text, view
+
+
+# ---- pairs that the check must refuse
+
+def replaced(parts, place, part):
+    return [*parts[:place], part, *parts[place + 1:]]
+
+
+def spoiled(first, second):
+    """Each a name and a pair with one thing changed, in one run or alike in both."""
+    (calls, text, view), lines = first, first[1].splitlines()
+    at = next(i for i, call in enumerate(calls) if call[0] == 1)
+    switch = next(i for i, call in enumerate(calls) if call[0] == 6)
+    for name, other in [("a call left out", calls[:-1]), ("a current", replaced(calls, at, measurement(0, current=1))),
+                        ("a command", [command(3000, 0) if call == command(3000, 1) else call for call in calls]),
+                        ("an override's time", replaced(calls, switch, override(1, 1))),
+                        ("an override's kind", replaced(calls, switch, power_on(0)))]:
+        yield name, (other, text, view), second
+    for place, line in enumerate(lines):
+        for column, word in enumerate(line.split()):
+            changed = " ".join(replaced(line.split(), column, "0" if word.strip("0") else "1"))
+            yield f"line {place + 1}, word {column + 1}", (calls, "\n".join(replaced(lines, place, changed)), view), second
+    for place in range(len(lines) - 1):
+        flipped = []
+        for events, text, record in first, second:
+            words = text.splitlines()[place].split()
+            changed = " ".join(replaced(words, 3, "1" if words[3] == "0" else "0"))
+            flipped.append((events, "\n".join(replaced(text.splitlines(), place, changed)), record))
+        yield f"line {place + 1}, both contactors", *flipped
+    for place, line in enumerate(view.splitlines()):
+        changed = replaced(view.splitlines(), place, line[:-1] + ("1" if line[-1] == "0" else "0"))
+        yield f"view: {line[:20]}", (calls, text, "\n".join(changed)), second
+
+
+def main():
+    model, tried = sys.argv[1], 0
+    for name, _, _, _ in checked(model):
+        print(name, "as document 01 says")
+    for name, calls in PAIRS.items():
+        both = [run(model, calls, which) for which in (0, 1)]
+        for what, *pair in [*spoiled(*both), ("override the same in both", both[0], both[0])]:
+            tried += 1
+            try:
+                check_shown(name, *check(*pair))
+            except AssertionError:
+                continue
+            sys.exit(f"{name}: accepted with this changed: {what}")
+    print(tried, "spoiled pairs refused")
+
+
+if __name__ == "__main__":
+    main()

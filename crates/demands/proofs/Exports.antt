@@ -5,16 +5,16 @@ use Rattle.export.proofs.Allowed.{CodeLong, CodeShort, long-exported, short-exp
 use Rattle.engine.proofs.Chain.{CodeRun, code-after-every-list, code-any-two-lists}
 
 pub exports-after-every-list : ExportsAfterEveryList CodeLong CodeShort CodeRun
-exports-after-every-list battery type calls given after closing run =
-    let owed = code-after-every-list battery type calls given after closing run in
+exports-after-every-list battery calls given after closing run =
+    let owed = code-after-every-list battery calls given after closing run in
     record {
       longTerm = λ buffer left answer c. rw (← (owed .longTerm)) (long-exported (owed .sound) c);
       shortTerm = λ buffer left answer c. rw (← (owed .shortTerm)) (short-exported (owed .sound) c);
     }
 
 pub exports-of-any-two-lists : ExportsOfAnyTwoLists CodeLong CodeShort CodeRun
-exports-of-any-two-lists battery type calls₁ calls₂ alike given₁ given₂ after₁ after₂ closing₁ closing₂ run₁ run₂ =
-    let owed = code-any-two-lists battery type calls₁ calls₂ alike given₁ given₂ after₁ after₂ closing₁ closing₂ run₁ run₂ in
+exports-of-any-two-lists battery calls₁ calls₂ alike given₁ given₂ after₁ after₂ closing₁ closing₂ run₁ run₂ =
+    let owed = code-any-two-lists battery calls₁ calls₂ alike given₁ given₂ after₁ after₂ closing₁ closing₂ run₁ run₂ in
     record {
       longTerm = λ buffer left₁ left₂ answer₁ answer₂ c₁ c₂.
           exported-alike (longEntries (after₂ .stores .faults)) buffer left₁ left₂ answer₁ answer₂

@@ -13,7 +13,6 @@ use Rattle.rules.specs.declared.stores.Entry.{Entry}
 use Rattle.rules.specs.declared.battery.Record.{Record}
 use Rattle.rules.specs.declared.answers.ReadEvent.the-variants.{Found as FoundEvent}
 use Rattle.rules.specs.declared.answers.ReadEntry.the-variants.{Found as FoundEntry}
-use Rattle.rules.specs.Quantities.{isType}
 use Rattle.rules.specs.Numbers.{stateNumber, commandNumber, overrideNumber, testNumber, contactorNumber, bytes}
 use Rattle.rules.specs.Ledger.{ledger, refusals, accepted, testOf, failedMaskOf, failedCountOf, TrippedOn}
 use Rattle.rules.specs.Stores.{longTerm, shortTerm}
@@ -21,7 +20,7 @@ use Rattle.rules.specs.Accounts.{charged, discharged}
 use Rattle.rules.specs.Contactor.{Closed}
 use Rattle.rules.specs.Shown.{keptOf, longEntries, shortEntries}
 use Rattle.rules.specs.Soundness.{Sound}
-use Rattle.rules.specs.Claims.{AfterList}
+use Rattle.rules.specs.Claims.{typeOr1, AfterList}
 use Rattle.export.specs.Claims.{StoresExported}
 use Rattle.export.proofs.Allowed.{CodeLong, CodeShort}
 use Rattle.roundtrip.specs.Chains.{ReadsBack, ReadAs, ReadToEnd, Wrote, WrittenAgain, Whole}
@@ -32,23 +31,22 @@ use Rattle.engine.proofs.Chain.{CodeRun, code-after-every-list}
 use Rattle.demands.proofs.Exports.{exports-after-every-list}
 
 -- ---- "After every list of calls the record shows what document 01 lays down", part by part, of every run of the code from the fresh
--- record of a type
+-- record of a type number: of its type, or of type 1 beside number 1
 
 module _
     (battery : ℕ)
-    (type : T (isType battery))
     (calls : List Event)
     (given : List ℕ)
     (after : Record)
     (closing : Contactor)
     (run : CodeRun battery calls given after closing) where
-  owed : AfterList battery calls given after closing
-  owed = code-after-every-list battery type calls given after closing run
+  owed : AfterList (typeOr1 battery) calls given after closing
+  owed = code-after-every-list battery calls given after closing run
 
   pub each-call-is-answered : given ≡ refusals calls
   each-call-is-answered = owed .answered
 
-  pub type-stays : after .live .battery ≡ battery
+  pub type-stays : after .live .battery ≡ typeOr1 battery
   type-stays = owed .batteryType
 
   pub state-is : stateNumber (after .live .control .state) ≡ stateNumber (ledger calls .state)
@@ -75,7 +73,7 @@ module _
   pub failed-count-is : after .live .watch .failed ≡ failedCountOf (ledger calls .measured)
   failed-count-is = owed .failedCount
 
-  pub tripped-is : (number : ℕ) → number < 8 → T (keptOf after number .tripped) ↔ TrippedOn battery (ledger calls) number
+  pub tripped-is : (number : ℕ) → number < 8 → T (keptOf after number .tripped) ↔ TrippedOn (typeOr1 battery) (ledger calls) number
   tripped-is = owed .tripped
 
   pub charged-is : after .live .tally .charged .0 ≡ charged (accepted calls)
@@ -84,29 +82,29 @@ module _
   pub discharged-is : after .live .tally .discharged .0 ≡ discharged (accepted calls)
   discharged-is = owed .discharged
 
-  pub long-term-is : longEntries (after .stores .faults) ≡ longTerm battery (accepted calls)
+  pub long-term-is : longEntries (after .stores .faults) ≡ longTerm (typeOr1 battery) (accepted calls)
   long-term-is = owed .longTerm
 
-  pub short-term-is : shortEntries (after .stores .recent) ≡ shortTerm battery (accepted calls)
+  pub short-term-is : shortEntries (after .stores .recent) ≡ shortTerm (typeOr1 battery) (accepted calls)
   short-term-is = owed .shortTerm
 
   -- both stores as the exports write them, oldest entry first, into any buffer
-  pub stores-are-exported : StoresExported CodeLong CodeShort battery calls after
-  stores-are-exported = exports-after-every-list battery type calls given after closing run
+  pub stores-are-exported : StoresExported CodeLong CodeShort (typeOr1 battery) calls after
+  stores-are-exported = exports-after-every-list battery calls given after closing run
 
   pub record-is-sound : Sound after
   record-is-sound = owed .sound
 
-  pub contactor-is : (contactorNumber closing ≡ 1) ↔ Closed battery (ledger calls)
+  pub contactor-is : (contactorNumber closing ≡ 1) ↔ Closed (typeOr1 battery) (ledger calls)
   contactor-is = owed .closed
 
   -- what was exported reads back as the store that document 01 lays down, and then as "end" where it ends
   pub exported-long-term-reads-back : (κs : Lfts 1) (buffer left : List ℕ) (n : ℕ) → CodeLong after buffer (bytes n) left
-      → ReadAs entries (entry-reader κs) (take n left) n (longTerm battery (accepted calls))
+      → ReadAs entries (entry-reader κs) (take n left) n (longTerm (typeOr1 battery) (accepted calls))
   exported-long-term-reads-back κs buffer left n c = rw (← long-term-is) (long-export-reads-back κs after buffer left n c)
 
   pub exported-short-term-reads-back : (κs : Lfts 1) (buffer left : List ℕ) (n : ℕ) → CodeShort after buffer (bytes n) left
-      → ReadAs entries (entry-reader κs) (take n left) n (shortTerm battery (accepted calls))
+      → ReadAs entries (entry-reader κs) (take n left) n (shortTerm (typeOr1 battery) (accepted calls))
   exported-short-term-reads-back κs buffer left n c = rw (← short-term-is) (short-export-reads-back κs after buffer left n c)
 
 module _ (κs : Lfts 1) where

@@ -4,17 +4,15 @@ use mathlib.Core.Path.{_≡_}
 use mathlib.Core.Logic.{_↔_, _≢_}
 use mathlib.Core.List.{List}
 use Prim.Native.Nat.{ℕ, _<_}
-use lib.Dec.{T}
 use Rattle.rules.specs.declared.states.Contactor.{Contactor}
 use Rattle.rules.specs.declared.calls.Event.{Event}
 use Rattle.rules.specs.declared.battery.Record.{Record}
-use Rattle.rules.specs.Quantities.{isType}
 use Rattle.rules.specs.Numbers.{stateNumber, commandNumber, testNumber, contactorNumber}
 use Rattle.rules.specs.Ledger.{ledger, refusals}
 use Rattle.rules.specs.Contactor.{Closed, ContactorsDiffer}
 use Rattle.rules.specs.Alike.{Alike}
 use Rattle.rules.specs.Shown.{keptOf, longEntries, shortEntries}
-use Rattle.rules.specs.Claims.{AfterList, TwoRuns}
+use Rattle.rules.specs.Claims.{typeOr1, AfterList, TwoRuns}
 use Rattle.export.specs.Claims.{StoresExported, SameExports}
 use Rattle.export.proofs.Allowed.{CodeLong, CodeShort}
 use Rattle.engine.proofs.Chain.{CodeRun, code-any-two-lists}
@@ -22,7 +20,6 @@ use Rattle.demands.proofs.Exports.{exports-after-every-list, exports-of
 
 module _
     (battery : ℕ)
-    (type : T (isType battery))
     (calls₁ calls₂ : List Event)
     (alike : Alike calls₁ calls₂)
     (given₁ given₂ : List ℕ)
@@ -30,8 +27,8 @@ module _
     (closing₁ closing₂ : Contactor)
     (run₁ : CodeRun battery calls₁ given₁ after₁ closing₁)
     (run₂ : CodeRun battery calls₂ given₂ after₂ closing₂) where
-  owed : TwoRuns battery calls₁ calls₂ given₁ given₂ after₁ after₂ closing₁ closing₂
-  owed = code-any-two-lists battery type calls₁ calls₂ alike given₁ given₂ after₁ after₂ closing₁ closing₂ run₁ run₂
+  owed : TwoRuns (typeOr1 battery) calls₁ calls₂ given₁ given₂ after₁ after₂ closing₁ closing₂
+  owed = code-any-two-lists battery calls₁ calls₂ alike given₁ given₂ after₁ after₂ closing₁ closing₂ run₁ run₂
 
   -- "each call gets the same refusal in both runs, or is accepted in both, as document 01's ledger of each run has it"
   pub same-answers : given₁ ≡ given₂
@@ -80,29 +77,29 @@ module _
 
   -- and as the exports write them: the same answer and the same bytes, whatever the buffer
   pub same-exports : SameExports CodeLong CodeShort after₁ after₂
-  same-exports = exports-of-any-two-lists battery type calls₁ calls₂ alike given₁ given₂ after₁ after₂ closing₁ closing₂ run₁ run₂
+  same-exports = exports-of-any-two-lists battery calls₁ calls₂ alike given₁ given₂ after₁ after₂ closing₁ closing₂ run₁ run₂
 
   -- "each as document 01 lays it down for either list"
-  pub laid-down-for-the-first : AfterList battery calls₁ given₁ after₁ closing₁
+  pub laid-down-for-the-first : AfterList (typeOr1 battery) calls₁ given₁ after₁ closing₁
   laid-down-for-the-first = owed .laidDown₁
 
-  pub laid-down-for-the-second : AfterList battery calls₂ given₂ after₂ closing₂
+  pub laid-down-for-the-second : AfterList (typeOr1 battery) calls₂ given₂ after₂ closing₂
   laid-down-for-the-second = owed .laidDown₂
 
-  pub exported-for-the-first : StoresExported CodeLong CodeShort battery calls₁ after₁
-  exported-for-the-first = exports-after-every-list battery type calls₁ given₁ after₁ closing₁ run₁
+  pub exported-for-the-first : StoresExported CodeLong CodeShort (typeOr1 battery) calls₁ after₁
+  exported-for-the-first = exports-after-every-list battery calls₁ given₁ after₁ closing₁ run₁
 
-  pub exported-for-the-second : StoresExported CodeLong CodeShort battery calls₂ after₂
-  exported-for-the-second = exports-after-every-list battery type calls₂ given₂ after₂ closing₂ run₂
+  pub exported-for-the-second : StoresExported CodeLong CodeShort (typeOr1 battery) calls₂ after₂
+  exported-for-the-second = exports-after-every-list battery calls₂ given₂ after₂ closing₂ run₂
 
   -- "Their contactors differ exactly when override is in force in just one run, state, command and test permit closing, and one or more
   -- protections are tripped, all of them liftable."
-  pub contactors-differ : (contactorNumber closing₁ ≢ contactorNumber closing₂) ↔ ContactorsDiffer battery (ledger calls₁) (ledger calls₂)
+  pub contactors-differ : (contactorNumber closing₁ ≢ contactorNumber closing₂) ↔ ContactorsDiffer (typeOr1 battery) (ledger calls₁) (ledger calls₂)
   contactors-differ = owed .contactorsDiffer
 
   -- "In either run the contactor is closed exactly when document 01's contactor rule … says so."
-  pub first-closed : (contactorNumber closing₁ ≡ 1) ↔ Closed battery (ledger calls₁)
+  pub first-closed : (contactorNumber closing₁ ≡ 1) ↔ Closed (typeOr1 battery) (ledger calls₁)
   first-closed = owed .closed₁
 
-  pub second-closed : (contactorNumber closing₂ ≡ 1) ↔ Closed battery (ledger calls₂)
+  pub second-closed : (contactorNumber closing₂ ≡ 1) ↔ Closed (typeOr1 battery) (ledger calls₂)
   second-closed = owed .closed₂

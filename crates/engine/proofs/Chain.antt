@@ -8,11 +8,11 @@ use Rattle.rules.specs.declared.calls.Event.{Event}
 use Rattle.rules.specs.declared.battery.Record.{Record}
 use Rattle.rules.specs.declared.answers.Fresh.{Fresh}
 use Rattle.rules.specs.declared.answers.Outcome.{Outcome}
-use Rattle.rules.specs.Claims.{AfterEveryList, AnyTwoLists, FreshOf, OnEveryRecord}
+use Rattle.rules.specs.Claims.{AfterEveryList, AnyTwoLists, Starter, OfEveryType, OnEveryRecord}
 use Rattle.step.specs.Fresh.{fresh}
 use Rattle.step.specs.Close.{contactor}
 use Rattle.step.specs.Call.{call, run, answers}
-use Rattle.step.proofs.Claims.{StepRuns, fresh-of, after-every-list, any-two-lists, on-every-record}
+use Rattle.step.proofs.Claims.{StepRuns, of-every-type, after-every-list, any-two-lists, on-every-record}
 use Rattle.engine.proofs.apply.Reads as apply-reads
 use Rattle.engine.proofs.contactor.Reads as contactor-reads
 use Rattle.engine.proofs.fresh.Reads as fresh-reads
@@ -64,16 +64,20 @@ step-run battery calls given after closing c = (
 -- ---- the claims
 
 pub code-after-every-list : AfterEveryList CodeRun
-code-after-every-list battery type calls given after closing c =
-    after-every-list battery type calls given after closing (step-run battery calls given after closing c)
+code-after-every-list battery calls given after closing c =
+    after-every-list battery calls given after closing (step-run battery calls given after closing c)
 
 pub code-any-two-lists : AnyTwoLists CodeRun
-code-any-two-lists battery type calls₁ calls₂ alike given₁ given₂ after₁ after₂ closing₁ closing₂ c₁ c₂ =
-    any-two-lists battery type calls₁ calls₂ alike given₁ given₂ after₁ after₂ closing₁ closing₂
+code-any-two-lists battery calls₁ calls₂ alike given₁ given₂ after₁ after₂ closing₁ closing₂ c₁ c₂ =
+    any-two-lists battery calls₁ calls₂ alike given₁ given₂ after₁ after₂ closing₁ closing₂
     (step-run battery calls₁ given₁ after₁ closing₁ c₁) (step-run battery calls₂ given₂ after₂ closing₂ c₂)
 
-pub code-fresh : (battery : ℕ) (f : Fresh) → Starts battery f → FreshOf battery (f .number) (f .start)
-code-fresh battery f s = rw s (fresh-of battery)
+-- the code's fresh records
+abbrev pub CodeStart : Starter
+CodeStart battery given start = Starts battery (record { number = given; start = start })
+
+pub code-of-every-type : OfEveryType CodeStart
+code-of-every-type = of-every-type
 
 -- one call of the code
 pub record CodeCall (before : Record) (e : Event) (given : ℕ) (after : Record) : Type 0 where

@@ -21,8 +21,12 @@ use Rattle.rules.specs.Alike.{Alike}
 use Rattle.rules.specs.Shown.{keptOf, longEntries, shortEntries}
 use Rattle.rules.specs.Soundness.{Sound}
 
--- An engine, as what its runs may be: from the fresh record of a type through a list of calls, the numbers that it answers call by call,
--- the record that it leaves and the contactor that it then has.
+-- the type that a fresh record has: type 1 beside number 1
+abbrev pub typeOr1 : ℕ → ℕ
+typeOr1 battery = cond (isType battery) battery 1
+
+-- An engine, as what its runs may be: from the fresh record of a type number, known or not, through a list of calls, the numbers that it
+-- answers call by call, the record that it leaves and the contactor that it then has.
 abbrev pub Engine : Type 1
 Engine = (battery : ℕ) → (calls : List Event) → (answers : List ℕ) → (after : Record) → (contactor : Contactor) → Type 0
 
@@ -49,8 +53,8 @@ pub record AfterList (battery : ℕ) (calls : List Event) (answers : List ℕ) (
 
 abbrev pub AfterEveryList : Engine → Type 0
 AfterEveryList engine =
-    (battery : ℕ) → T (isType battery) → (calls : List Event) (answers : List ℕ) (after : Record) (contactor : Contactor)
-    → engine battery calls answers after contactor → AfterList battery calls answers after contactor
+    (battery : ℕ) (calls : List Event) (answers : List ℕ) (after : Record) (contactor : Contactor)
+    → engine battery calls answers after contactor → AfterList (typeOr1 battery) calls answers after contactor
 
 -- ---- demand 3, about two whole lists
 
@@ -90,21 +94,27 @@ pub record TwoRuns
 
 abbrev pub AnyTwoLists : Engine → Type 0
 AnyTwoLists engine =
-    (battery : ℕ) → T (isType battery) → (calls₁ calls₂ : List Event) → Alike calls₁ calls₂
+    (battery : ℕ) (calls₁ calls₂ : List Event) → Alike calls₁ calls₂
     → (answers₁ answers₂ : List ℕ) (after₁ after₂ : Record) (contactor₁ contactor₂ : Contactor)
     → engine battery calls₁ answers₁ after₁ contactor₁ → engine battery calls₂ answers₂ after₂ contactor₂
-    → TwoRuns battery calls₁ calls₂ answers₁ answers₂ after₁ after₂ contactor₁ contactor₂
+    → TwoRuns (typeOr1 battery) calls₁ calls₂ answers₁ answers₂ after₁ after₂ contactor₁ contactor₂
 
 -- ---- demand 1, for a fresh record of any type number
 
--- the type that the record has: type 1 beside number 1
-abbrev pub typeOr1 : ℕ → ℕ
-typeOr1 battery = cond (isType battery) battery 1
+-- What an engine may give for a type number: the answer, and the record beside it.
+abbrev pub Starter : Type 1
+Starter = (battery : ℕ) → (answer : ℕ) → (start : Record) → Type 0
 
-pub record FreshOf (battery answer : ℕ) (start : Record) : Type 0 where
+pub record FreshOf (starter : Starter) (battery answer : ℕ) (start : Record) : Type 0 where
   pub number : answer ≡ firstOf (freshChecks battery)
   -- "A fresh record has a type, is Unpowered (0), last time 0, everything empty.": what is owed after no call
   pub empty : AfterList (typeOr1 battery) [] [] start Open
+  -- "beside it the fresh record of type 1", whole: the type's own number gets this record with 0, and no other
+  pub ofItsType : starter (typeOr1 battery) 0 start
+  pub noOther : (answer₁ : ℕ) (start₁ : Record) → starter (typeOr1 battery) answer₁ start₁ → start₁ ≡ start
+
+abbrev pub OfEveryType : Starter → Type 0
+OfEveryType starter = (battery answer : ℕ) (start : Record) → starter battery answer start → FreshOf starter battery answer start
 
 -- ---- demand 1, for a call: on any record, reached by a list or not
 

@@ -1,22 +1,23 @@
 -- The claims, of the step: instances at the fresh record of what Runs, Closing and Overrides prove of any record. Assumes nothing.
 use mathlib.Core.Path.{_≡_, refl, sym, ap, subst, _∙_}
 use mathlib.Core.Logic.{_↔_, _≢_}
-use mathlib.Core.Bool.{Bool, true, false, cond, _&&_}
+use mathlib.Core.Bool.{Bool, true, false, not, cond, _&&_}
 use mathlib.Core.List.{List, []}
 use Prim.Native.Nat.{ℕ, zero, suc, _<_}
 use lib.Dec.{T, leb}
 use Rattle.rules.specs.declared.calls.Event.{Event}
 use Rattle.rules.specs.declared.battery.Record.{Record}
+use Rattle.rules.specs.declared.answers.Fresh.{Fresh}
 use Rattle.rules.specs.Quantities.{isType}
 use Rattle.rules.specs.Numbers.{stateNumber, commandNumber, overrideNumber, testNumber, contactorNumber}
-use Rattle.rules.specs.Refusals.{CallAnswer.unsound}
+use Rattle.rules.specs.Refusals.{firstOf, freshChecks, CallAnswer.unsound}
 use Rattle.rules.specs.Protections.{protection}
 use Rattle.rules.specs.Ledger.{ledger, atFirst, accepted, isTrippedOn}
 use Rattle.rules.specs.Stores.{longTerm, shortTerm}
 use Rattle.rules.specs.Contactor.{Closed, ContactorsDiffer}
 use Rattle.rules.specs.Alike.{Alike}
 use Rattle.rules.specs.Shown.{keptOf, longEntries, shortEntries}
-use Rattle.rules.specs.Claims.{Engine, AfterList, AfterEveryList, TwoRuns, AnyTwoLists, FreshOf, Refused, OnEveryRecord}
+use Rattle.rules.specs.Claims.{typeOr1, Engine, AfterList, AfterEveryList, TwoRuns, AnyTwoLists, Starter, FreshOf, OfEveryType, Refused, OnEveryRecord}
 use Rattle.rules.proofs.Decide.{is-tripped, same-test}
 use Rattle.step.specs.Fresh.{freshRecord, fresh}
 use Rattle.step.specs.Sound.{sound}
@@ -87,25 +88,46 @@ same-known battery = same-test (known battery) (isType battery) (and-iff (leb 1 
     swap : {A B : Type 0} → A ↔ B → B ↔ A
     swap e = (e .1, e .0)
 
--- the step's test of a type number
-by-type : (battery : ℕ) → fresh battery ≡ cond (known battery) (record { number = 0; start = freshRecord battery }) (record { number = 1; start = freshRecord 1 })
-by-type battery = refl
+-- what a number gets: its type's fresh record with 0, or that of type 1 with 1
+fresh-of-known : (battery : ℕ) → T (isType battery) → fresh battery ≡ record { number = 0; start = freshRecord battery }
+fresh-of-known battery h = rw (same-known battery, is-true (isType battery) .0 h) refl
 
-pub fresh-known : (battery : ℕ) → T (isType battery) → fresh battery .start ≡ freshRecord battery
-fresh-known battery h = rw (same-known battery, is-true (isType battery) .0 h) refl
-
-pub fresh-of : (battery : ℕ) → FreshOf battery (fresh battery .number) (fresh battery .start)
-unfolding closes
-fresh-of battery = go (isType battery) refl
+fresh-is : (battery : ℕ) → fresh battery ≡ record { number = firstOf (freshChecks battery); start = freshRecord (typeOr1 battery) }
+fresh-is battery = rw (same-known battery) (go (isType battery))
   where
-    go : (b : Bool) → isType battery ≡ b → FreshOf battery (fresh battery .number) (fresh battery .start)
-    go true e = rw (same-known battery, e) (record { number = rw e refl; empty = rw e (after-list battery (is-true (isType battery) .1 e) []) })
-    go false e = rw (same-known battery, e) (record { number = rw e refl; empty = rw e (after-list 1 tt []) })
+    go : (b : Bool) → _≡_ {A = Fresh} (cond b (record { number = 0; start = freshRecord battery }) (record { number = 1; start = freshRecord 1 }))
+        (record { number = cond (not b) 1 0; start = freshRecord (cond b battery 1) })
+    go true = refl
+    go false = refl
+
+known-or-1 : (battery : ℕ) → T (isType (typeOr1 battery))
+known-or-1 battery = go (isType battery) refl
+  where
+    go : (b : Bool) → isType battery ≡ b → T (isType (cond b battery 1))
+    go true e = is-true (isType battery) .1 e
+    go false e = tt
+
+-- the step's fresh records
+abbrev pub StepStarts : Starter
+StepStarts battery given start = _≡_ {A = Fresh} (record { number = given; start = start }) (fresh battery)
+
+pub of-every-type : OfEveryType StepStarts
+unfolding closes
+of-every-type battery given start starts = record {
+  number = ap (λ (f : Fresh). f .number) (starts ∙ fresh-is battery);
+  empty = rw same (after-list (typeOr1 battery) (known-or-1 battery) []);
+  ofItsType = rw same (sym (fresh-of-known (typeOr1 battery) (known-or-1 battery)));
+  noOther = λ given₁ start₁ starts₁. ap (λ (f : Fresh). f .start) (starts₁ ∙ fresh-of-known (typeOr1 battery) (known-or-1 battery)) ∙ sym same;
+}
+  where
+    same : start ≡ freshRecord (typeOr1 battery)
+    same = ap (λ (f : Fresh). f .start) (starts ∙ fresh-is battery)
 
 -- ---- the claims
 
 pub after-every-list : AfterEveryList StepRuns
-after-every-list battery h calls given after closing (g, a, c) = rw (g, a, c, fresh-known battery h) (after-list battery h calls)
+after-every-list battery calls given after closing (g, a, c) =
+    rw (g, a, c, fresh-is battery) (after-list (typeOr1 battery) (known-or-1 battery) calls)
 
 module _ (battery : ℕ) (type : T (isType battery)) (calls₁ calls₂ : List Event) (alike : Alike calls₁ calls₂) where
   abbrev r : Record
@@ -155,8 +177,8 @@ module _ (battery : ℕ) (type : T (isType battery)) (calls₁ calls₂ : List E
   }
 
 pub any-two-lists : AnyTwoLists StepRuns
-any-two-lists battery h calls₁ calls₂ alike given₁ given₂ after₁ after₂ closing₁ closing₂ (g₁, a₁, c₁) (g₂, a₂, c₂) =
-    rw (g₁, a₁, c₁, g₂, a₂, c₂, fresh-known battery h) (two-runs battery h calls₁ calls₂ alike)
+any-two-lists battery calls₁ calls₂ alike given₁ given₂ after₁ after₂ closing₁ closing₂ (g₁, a₁, c₁) (g₂, a₂, c₂) =
+    rw (g₁, a₁, c₁, g₂, a₂, c₂, fresh-is battery) (two-runs (typeOr1 battery) (known-or-1 battery) calls₁ calls₂ alike)
 
 -- ---- one call, on any record
 

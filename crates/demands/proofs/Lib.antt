@@ -1,4 +1,6 @@
 pub mod Listed
+pub mod Reader
+pub mod Ends
 pub mod First
 pub mod Exports
 pub mod Second

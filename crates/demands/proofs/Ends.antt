@@ -16,8 +16,23 @@ use contract.Running.{GhostRules, Running, alone}
 use denote.Signature.{Signature}
 use denote.Triple.Adequate.{adequate}
 use denote.Triple.Spec.{Spec, tripleOf, Meets}
-use Rattle.engine.proofs.apply as call
-use Rattle.demands.proofs.Reader.{ReaderCallsEnd, reader-calls-end}
+use Rattle.engine.proofs.fresh as run-fresh
+use Rattle.engine.proofs.apply as run-apply
+use Rattle.engine.proofs.judge as run-judge
+use Rattle.engine.proofs.write_stores as run-write-stores
+use Rattle.engine.proofs.sound as run-sound
+use Rattle.engine.proofs.contactor as run-contactor
+use Rattle.events.proofs.read.read_event as run-read-event
+use Rattle.entries.proofs.read.read_entry as run-read-entry
+use Rattle.events.proofs.write.write_event as run-write-event
+use Rattle.entries.proofs.write.write_entry as run-write-entry
+use Rattle.export.proofs.export_long as run-export-long
+use Rattle.export.proofs.export_short as run-export-short
+use Rattle.log.proofs.reader.starting_at as run-starting-at
+use Rattle.log.proofs.reader.peek as run-peek
+use Rattle.log.proofs.reader.next as run-next
+use Rattle.log.proofs.reader.rest as run-rest
+use Rattle.log.proofs.reader.event_at as run-event-at
 
 -- What a function's statement gives: in every model of the machine, from every memory that holds the arguments as values of their types (no
 -- function here asks for more), beside anything else, its routine is done after some number of steps, without a trap. The value that it returns
@@ -37,43 +52,48 @@ module _
       (x : c .Ghost) (before : Memory) (rest : SProp 𝓤) → Satisfies 𝓤 H 𝓜 before (sep 𝓤 (c .pre x) rest)
       → ∥ ((steps : ℕ) × (v : Val) × (after : Memory) × (routine .step steps (c .args x) before ≡ done (v, after)) × Satisfies 𝓤 H 𝓜 after (sep 𝓤 (c .post x v) rest)) ∥₁
 
-  pub a-statement-ends : Stated → Ends
+  pub ends : Stated → Ends
   unfolding alone
-  a-statement-ends met 𝓤 H 𝓜 𝓖 𝓡 = adequate 𝓤 H 𝓜 (alone 𝓤 H 𝓜 𝓡 routine) anyName (tripleOf 𝓤 H (𝓖 .A) S (spec 𝓤 H (𝓖 .A) (𝓜 .mem) (𝓡 .run))) (met 𝓤 H 𝓜 𝓖 𝓡)
+  ends met 𝓤 H 𝓜 𝓖 𝓡 = adequate 𝓤 H 𝓜 (alone 𝓤 H 𝓜 𝓡 routine) anyName (tripleOf 𝓤 H (𝓖 .A) S (spec 𝓤 H (𝓖 .A) (𝓜 .mem) (𝓡 .run))) (met 𝓤 H 𝓜 𝓖 𝓡)
 
--- so of a call
-pub apply-ends : (M : Type 1) → Ends M call.signature call.Symbol.routine call.spec
-apply-ends M = a-statement-ends M call.signature call.Symbol.routine call.spec call.Met.met
-
--- each function that demand 1 covers, by its own theorem
+-- each function that demand 1 covers
 pub record EveryCallEnds (M : Type 1) : Type 2 where
-  pub fresh : Rattle.engine.proofs.fresh.Statement.statement M
-  pub judge : Rattle.engine.proofs.judge.Statement.statement M
-  pub writeStores : Rattle.engine.proofs.write_stores.Statement.statement M
-  pub apply : Rattle.engine.proofs.apply.Statement.statement M
-  pub sound : Rattle.engine.proofs.sound.Statement.statement M
-  pub contactor : Rattle.engine.proofs.contactor.Statement.statement M
-  pub readEvent : Rattle.events.proofs.read.read_event.Statement.statement M
-  pub readEntry : Rattle.entries.proofs.read.read_entry.Statement.statement M
-  pub writeEvent : Rattle.events.proofs.write.write_event.Statement.statement M
-  pub writeEntry : Rattle.entries.proofs.write.write_entry.Statement.statement M
-  pub exportLong : Rattle.export.proofs.export_long.Statement.statement M
-  pub exportShort : Rattle.export.proofs.export_short.Statement.statement M
-  pub reader : ReaderCallsEnd M
+  pub fresh : Ends M run-fresh.signature run-fresh.Symbol.routine run-fresh.spec
+  pub apply : Ends M run-apply.signature run-apply.Symbol.routine run-apply.spec
+  pub judge : Ends M run-judge.signature run-judge.Symbol.routine run-judge.spec
+  pub writeStores : Ends M run-write-stores.signature run-write-stores.Symbol.routine run-write-stores.spec
+  pub sound : Ends M run-sound.signature run-sound.Symbol.routine run-sound.spec
+  pub contactor : Ends M run-contactor.signature run-contactor.Symbol.routine run-contactor.spec
+  pub readEvent : Ends M run-read-event.signature run-read-event.Symbol.routine run-read-event.spec
+  pub readEntry : Ends M run-read-entry.signature run-read-entry.Symbol.routine run-read-entry.spec
+  pub writeEvent : Ends M run-write-event.signature run-write-event.Symbol.routine run-write-event.spec
+  pub writeEntry : Ends M run-write-entry.signature run-write-entry.Symbol.routine run-write-entry.spec
+  pub exportLong : Ends M run-export-long.signature run-export-long.Symbol.routine run-export-long.spec
+  pub exportShort : Ends M run-export-short.signature run-export-short.Symbol.routine run-export-short.spec
+  pub readerStartingAt : Ends M run-starting-at.signature run-starting-at.Symbol.routine run-starting-at.spec
+  pub readerPeek : Ends M run-peek.signature run-peek.Symbol.routine run-peek.spec
+  pub readerNext : Ends M run-next.signature run-next.Symbol.routine run-next.spec
+  pub readerRest : Ends M run-rest.signature run-rest.Symbol.routine run-rest.spec
+  pub eventAt : Ends M run-event-at.signature run-event-at.Symbol.routine run-event-at.spec
 
+-- by its own theorem
 pub each-ends : (M : Type 1) → EveryCallEnds M
 each-ends M = record {
-  fresh = Rattle.engine.proofs.fresh.Met.met;
-  judge = Rattle.engine.proofs.judge.Met.met;
-  writeStores = Rattle.engine.proofs.write_stores.Met.met;
-  apply = Rattle.engine.proofs.apply.Met.met;
-  sound = Rattle.engine.proofs.sound.Met.met;
-  contactor = Rattle.engine.proofs.contactor.Met.met;
-  readEvent = Rattle.events.proofs.read.read_event.Met.met;
-  readEntry = Rattle.entries.proofs.read.read_entry.Met.met;
-  writeEvent = Rattle.events.proofs.write.write_event.Met.met;
-  writeEntry = Rattle.entries.proofs.write.write_entry.Met.met;
-  exportLong = Rattle.export.proofs.export_long.Met.met;
-  exportShort = Rattle.export.proofs.export_short.Met.met;
-  reader = reader-calls-end M;
+  fresh = ends M run-fresh.signature run-fresh.Symbol.routine run-fresh.spec run-fresh.Met.met;
+  apply = ends M run-apply.signature run-apply.Symbol.routine run-apply.spec run-apply.Met.met;
+  judge = ends M run-judge.signature run-judge.Symbol.routine run-judge.spec run-judge.Met.met;
+  writeStores = ends M run-write-stores.signature run-write-stores.Symbol.routine run-write-stores.spec run-write-stores.Met.met;
+  sound = ends M run-sound.signature run-sound.Symbol.routine run-sound.spec run-sound.Met.met;
+  contactor = ends M run-contactor.signature run-contactor.Symbol.routine run-contactor.spec run-contactor.Met.met;
+  readEvent = ends M run-read-event.signature run-read-event.Symbol.routine run-read-event.spec run-read-event.Met.met;
+  readEntry = ends M run-read-entry.signature run-read-entry.Symbol.routine run-read-entry.spec run-read-entry.Met.met;
+  writeEvent = ends M run-write-event.signature run-write-event.Symbol.routine run-write-event.spec run-write-event.Met.met;
+  writeEntry = ends M run-write-entry.signature run-write-entry.Symbol.routine run-write-entry.spec run-write-entry.Met.met;
+  exportLong = ends M run-export-long.signature run-export-long.Symbol.routine run-export-long.spec run-export-long.Met.met;
+  exportShort = ends M run-export-short.signature run-export-short.Symbol.routine run-export-short.spec run-export-short.Met.met;
+  readerStartingAt = ends M run-starting-at.signature run-starting-at.Symbol.routine run-starting-at.spec run-starting-at.Met.met;
+  readerPeek = ends M run-peek.signature run-peek.Symbol.routine run-peek.spec run-peek.Met.met;
+  readerNext = ends M run-next.signature run-next.Symbol.routine run-next.spec run-next.Met.met;
+  readerRest = ends M run-rest.signature run-rest.Symbol.routine run-rest.spec run-rest.Met.met;
+  eventAt = ends M run-event-at.signature run-event-at.Symbol.routine run-event-at.spec run-event-at.Met.met;
 }

@@ -20,7 +20,8 @@ use Rattle.rules.specs.Numbers.{ReadAnswer, answerOfReadEvent}
 use Rattle.rules.specs.Bytes.{eventForms, readAt}
 use Rattle.rules.proofs.ByteLaws.{read-end, read-refused}
 use Rattle.log.specs.declared.reader.Reader.{Reader}
-use Rattle.log.specs.Position.{positionAfter, nextPosition}
+use Rattle.log.specs.declared.reader.Read.{Read}
+use Rattle.log.specs.Position.{positionAfter, nextPosition, PartFrom}
 use Rattle.log.proofs.reader.next as next
 use Rattle.log.proofs.reader.event_at.Reads as event-at
 use Rattle.demands.specs.Answers.{ReadAllows, ReaderAllows}
@@ -38,38 +39,25 @@ reader-allows log position = record {
   valueMoves = λ kind values next e. ap (λ (a : ReadAnswer). positionAfter a position) e;
 }
 
--- `next`: the lent reader before and after, and the answer
-pub record NextAllows (before after : Reader) (a : ReadEvent) : Type 0 where
+-- `next`: the lent reader before and after, and what it gives
+pub record NextAllows (before after : Reader) (r : Read) : Type 0 where
   pub sameLog : after .log ≡ before .log
-  pub reads : ReaderAllows eventForms (now (before .log)) (before .position) (answerOfReadEvent a) (after .position)
+  pub reads : ReaderAllows eventForms (now (before .log)) (before .position) (answerOfReadEvent (r .answer)) (after .position)
+  -- "the unread remainder is handed back as a part of that log"
+  pub remainder : PartFrom (before .log) (after .position) (r .rest)
 
 module _ {M : Type 1} (𝓤 : URA M) (H : Heap 𝓤) (A : Atoms 𝓤) (mem : Memory → SProp 𝓤) (run : Routine → Fun 𝓤) (κs : Lfts 2) where
-  pub next-read : (args : Args next.signature κs) (exit : AtExit next.ended κs) (a : ReadEvent)
-      → ent 𝓤 (next.clauses 𝓤 H A mem run κs args .ensures tt a exit) (fact 𝓤 (NextAllows (now (args .0)) (now (exit .0)) a))
-  next-read args exit a =
+  pub next-read : (args : Args next.signature κs) (exit : AtExit next.ended κs) (r : Read)
+      → ent 𝓤 (next.clauses 𝓤 H A mem run κs args .ensures tt r exit) (fact 𝓤 (NextAllows (now (args .0)) (now (exit .0)) r))
+  next-read args exit r =
       fact-mono 𝓤 _ _ (λ told.
-      record { sameLog = told .1; reads = rw (told .0, told .2) (reader-allows (now (now (args .0) .log)) (now (args .0) .position)) })
+      record {
+        sameLog = told .1;
+        reads = rw (told .0, told .2) (reader-allows (now (now (args .0) .log)) (now (args .0) .position));
+        remainder = told .3;
+      })
 
 -- `event_at`, for callers that hold no reader
 pub event-at-read : (κs : Lfts 1) (log : RefT (List ℕ)) (position : ℕ) (r : ReadEvent) → event-at.Post κs (log, (position, tt)) r (log, (position, tt))
     → ReadAllows position (answerOfReadEvent r)
 event-at-read κs log position r allowed = rw (allowed) (reading-allows eventForms (log .now) position)
-
--- every call of the reader's functions ends (see Ends)
-pub record ReaderCallsEnd (M : Type 1) : Type 2 where
-  pub new : Rattle.log.proofs.reader.new.Statement.statement M
-  pub startingAt : Rattle.log.proofs.reader.starting_at.Statement.statement M
-  pub peek : Rattle.log.proofs.reader.peek.Statement.statement M
-  pub next : Rattle.log.proofs.reader.next.Statement.statement M
-  pub rest : Rattle.log.proofs.reader.rest.Statement.statement M
-  pub eventAt : Rattle.log.proofs.reader.event_at.Statement.statement M
-
-pub reader-calls-end : (M : Type 1) → ReaderCallsEnd M
-reader-calls-end M = record {
-  new = Rattle.log.proofs.reader.new.Met.met;
-  startingAt = Rattle.log.proofs.reader.starting_at.Met.met;
-  peek = Rattle.log.proofs.reader.peek.Met.met;
-  next = Rattle.log.proofs.reader.next.Met.met;
-  rest = Rattle.log.proofs.reader.rest.Met.met;
-  eventAt = Rattle.log.proofs.reader.event_at.Met.met;
-}

@@ -76,10 +76,10 @@ module _
   pub tripped-is : (number : ℕ) → number < 8 → T (keptOf after number .tripped) ↔ TrippedOn (typeOr1 battery) (ledger calls) number
   tripped-is = owed .tripped
 
-  pub charged-is : after .live .tally .charged .0 ≡ charged (accepted calls)
+  pub charged-is : after .live .tally .charged ≡ charged (accepted calls)
   charged-is = owed .charged
 
-  pub discharged-is : after .live .tally .discharged .0 ≡ discharged (accepted calls)
+  pub discharged-is : after .live .tally .discharged ≡ discharged (accepted calls)
   discharged-is = owed .discharged
 
   pub long-term-is : longEntries (after .stores .faults) ≡ longTerm (typeOr1 battery) (accepted calls)

@@ -98,25 +98,13 @@ def check_answers(first, second):
         assert [a[i] for i in (0, 1, 2, 4, 6)] == [b[i] for i in (0, 1, 2, 4, 6)] and (a[5], b[5]) == (on, other), (a, b)
         state, tripped, permit = a[2], a[4], a[6] == 1 and (a[2], which) in ((2, 0), (3, 2))
         liftable = tripped & ~0xCA == 0
+        assert (a[3] != b[3]) == (on != other and permit and tripped != 0 and liftable), (a, b)
         for row in a, b:
             assert row[3] == int(permit and (tripped == 0 or liftable and row[5] == 1)), row
-        assert (a[3] != b[3]) == (on != other and permit and tripped != 0 and liftable), (a, b)
         met |= {("refusal", a[1]), ("state", state)}
         if permit and tripped:
             met |= {("liftable", state, on, other) if liftable else ("not liftable", on, other)}
     return met
-
-
-def check(first, second):
-    """Gives what the pair shows: what was met in the answers, and the fields of the first record."""
-    check_calls(first[0], second[0])
-    met = check_answers(first, second)
-    a, b = (dict(line.split(" ", 1) for line in view.splitlines()) for _, _, view in (first, second))
-    assert a.keys() == b.keys() and [n for n in a if a[n] != b[n] and n not in ("override", "contactor")] == [], (a, b)
-    for shown, (_, text, _) in (a, first), (b, second):
-        assert [int(shown[n]) for n in ("state", "contactor", "override", "test")] == [rows(text)[-1][i] for i in (2, 3, 5, 6)], shown
-        assert text.splitlines()[-1].split()[:3] == ["end", shown["charged"], shown["discharged"]], shown
-    return met, a
 
 
 def entries(export):
@@ -125,6 +113,30 @@ def entries(export):
     while data:
         yield data[0], data[5]
         data = data[{0x21: 10, 0x22: 6}[data[0]]:]
+
+
+def check_record(shown, events, text):
+    """The record shows what the last answer, the last line and the accepted calls say."""
+    answers, end = rows(text), text.splitlines()[-1].split()
+    *_, (which, on) = held(events, answers)
+    accepted = [event for event, row in zip(events, answers) if row[1] == 0]
+    assert [int(shown[n]) for n in ("state", "contactor", "override", "test")] == [answers[-1][i] for i in (2, 3, 5, 6)], shown
+    assert int(shown["tripped"], 16) == answers[-1][4] and int(shown["failed"], 16).bit_count() == int(shown["failed_count"]), shown
+    assert [int(shown[n]) for n in ("type", "command", "override")] == [3, which, on], shown
+    assert int(shown["commands"]) == sum(event[0] == 4 for event in accepted), shown
+    assert int(shown["last"]) == int.from_bytes(accepted[-1][1:5], "little"), shown
+    assert end == ["end", shown["charged"], shown["discharged"], str(len(list(entries(shown["long"]))))], shown
+
+
+def check(first, second):
+    """Gives what the pair shows: what was met in the answers, and the fields of the first record."""
+    check_calls(first[0], second[0])
+    met = check_answers(first, second)
+    a, b = (dict(line.split(" ", 1) for line in view.splitlines()) for _, _, view in (first, second))
+    assert a.keys() == b.keys() and [n for n in a if a[n] != b[n] and n not in ("override", "contactor")] == [], (a, b)
+    for shown, (events, text, _) in (a, first), (b, second):
+        check_record(shown, events, text)
+    return met, a
 
 
 def check_shown(name, met, record):
@@ -137,9 +149,9 @@ def check_shown(name, met, record):
     assert set(zeros) == {"override", "contactor", *(("failed", "failed_count") if name == "apart" else ())}, zeros
     assert 1 < int(record["commands"]), record
     for store in "long", "short":
-        held = list(entries(record[store]))
-        assert {number in (1, 3, 6, 7) for kind, number in held if kind == 0x21} == {False, True}, held
-    assert any(kind == 0x22 for kind, _ in held), held
+        stored = list(entries(record[store]))
+        assert {number in (1, 3, 6, 7) for kind, number in stored if kind == 0x21} == {False, True}, stored
+    assert any(kind == 0x22 for kind, _ in stored), stored
 
 
 def checked(model):
@@ -173,14 +185,16 @@ def spoiled(first, second):
             yield f"line {place + 1}, word {column + 1}", (calls, "\n".join(replaced(lines, place, changed)), view), second
     for place in range(len(lines) - 1):
         flipped = []
-        for events, text, record in first, second:
-            words = text.splitlines()[place].split()
+        for events, answers, record in first, second:
+            words = answers.splitlines()[place].split()
             changed = " ".join(replaced(words, 3, "1" if words[3] == "0" else "0"))
-            flipped.append((events, "\n".join(replaced(text.splitlines(), place, changed)), record))
+            flipped.append((events, "\n".join(replaced(answers.splitlines(), place, changed)), record))
         yield f"line {place + 1}, both contactors", *flipped
     for place, line in enumerate(view.splitlines()):
         changed = replaced(view.splitlines(), place, line[:-1] + ("1" if line[-1] == "0" else "0"))
         yield f"view: {line[:20]}", (calls, text, "\n".join(changed)), second
+        if not line.startswith(("long", "short")):
+            yield f"both views: {line}", (calls, text, "\n".join(changed)), (*second[:2], "\n".join(changed))
 
 
 def main():

@@ -1,8 +1,10 @@
 // A record and its exports as text: a line each, of a name and a value.
 ghost use mathlib.Core.Path.{_≡_};
+ghost use Rattle.rules.specs.Numbers.{contactorNumber};
 use rules::answers::Written;
 use rules::battery::Live;
 use rules::battery::Record;
+use rules::states::Contactor;
 use rules::stores::Stores;
 
 pub fn text(s: &[u8]) {
@@ -81,7 +83,15 @@ fn watch(l: Live) {
     hex_line(b"failed ", w.mask as u64, 4);
     line(b"failed_count ", w.failed as u64);
     hex_line(b"tripped ", wide(views::tripped(l)), 2);
-    line(b"contactor ", wide(views::contactor(l)));
+}
+
+fn closed(c: Contactor) -> u64
+    ensures { λ n. ⌜ n ≡ contactorNumber c ⌝ }
+{
+    match c {
+        Contactor::Open => 0,
+        Contactor::Closed => 1,
+    }
 }
 
 fn accounts(l: Live) {
@@ -114,6 +124,7 @@ pub fn record(r: Record) {
     line(b"type ", wide(l.battery));
     control(l);
     watch(l);
+    line(b"contactor ", closed(engine::contactor(r)));
     accounts(l);
     long(r);
     short(r);

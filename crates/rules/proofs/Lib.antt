@@ -10,6 +10,7 @@ pub mod Milder
 pub mod Bounds
 pub mod Examples
 pub mod Closing
+pub mod Worthless
 pub mod Decimals
 pub mod ByteLaws
 pub mod Parts

@@ -17,3 +17,4 @@ pub mod Bytes
 pub mod Text
 pub mod Claims
 pub mod Examples
+pub mod Worthless

@@ -1,0 +1,191 @@
+-- What the claims rule out. Of every engine that meets them, on lists and records so small that what is claimed computes: what it shows
+-- after each row of specs/Worthless, what it gives for a type number, what a pair of lists alike but for override leaves, and what a call
+-- does to an unsound record. Assumes nothing.
+use mathlib.Core.Path.{_≡_, refl, sym, subst, _∙_}
+use mathlib.Core.Logic.{_⊎_, _≢_, inl, inr}
+use mathlib.Core.Bool.{true, false, not, true≢false}
+use mathlib.Core.List.{List, [], _∷_}
+use Prim.Native.Nat.{ℕ, zero, suc, _<_}
+use native.Mathlib.Nat.{le-of-suc-le-suc, not-suc-le-zero}
+use native.Mathlib.Omega.{arith}
+use lib.Count.{ones}
+use lib.Dec.{T, T-not}
+use lib.ListN.{length, getD}
+use Rattle.rules.specs.declared.states.Contactor.{Contactor}
+use Rattle.rules.specs.declared.states.State.the-variants.{Unpowered}
+use Rattle.rules.specs.declared.calls.Event.{Event}
+use Rattle.rules.specs.declared.battery.Record.{Record}
+use Rattle.rules.specs.Quantities.{ms, isType}
+use Rattle.rules.specs.Numbers.{stateNumber, contactorNumber}
+use Rattle.rules.specs.Refusals.{refusal}
+use Rattle.rules.specs.Test.{plausible, failedMask, failedCount}
+use Rattle.rules.specs.Protections.{extremes, permitted, protection}
+use Rattle.rules.specs.Ledger.{ledger, TrippedOn, isTrippedOn}
+use Rattle.rules.specs.Contactor.{Closed, InForce, AllLiftable, NoneTripped, isClosed}
+use Rattle.rules.specs.Alike.{Alike, none, same, switched}
+use Rattle.rules.specs.Shown.{keptOf, longEntries}
+use Rattle.rules.specs.Soundness.{Sound}
+use Rattle.rules.specs.Claims.{typeOr1, Engine, AfterList, AfterEveryList, TwoRuns, AnyTwoLists, Starter, OfEveryType, OnEveryRecord}
+use Rattle.rules.specs.Worthless.{Each, Seen, cellsOf, example, lowCellsUnder, lowCellTrip, lowCellsForced, overPowerLoss, betweenAfterTrip, Row, Shows, rows}
+use Rattle.rules.proofs.Decide.{is-tripped}
+use Rattle.rules.proofs.Closing.{is-closed}
+
+-- ---- tests that compute, where the rules have propositions
+
+tripped-on : (battery number : ℕ) (calls : List Event) → T (isTrippedOn battery (ledger calls) number) → TrippedOn battery (ledger calls) number
+tripped-on battery number calls h = is-tripped (protection battery number) (ledger calls .measured) .0 h
+
+not-tripped-on : (battery number : ℕ) (calls : List Event) → T (not (isTrippedOn battery (ledger calls) number)) → ¬ TrippedOn battery (ledger calls) number
+not-tripped-on battery number calls h t =
+    T-not (isTrippedOn battery (ledger calls) number) h (is-tripped (protection battery number) (ledger calls .measured) .1 t)
+
+closed-on : (battery : ℕ) (calls : List Event) → T (isClosed battery (ledger calls)) → Closed battery (ledger calls)
+closed-on battery calls h = is-closed battery (ledger calls) .0 h
+
+not-closed-on : (battery : ℕ) (calls : List Event) → T (not (isClosed battery (ledger calls))) → ¬ Closed battery (ledger calls)
+not-closed-on battery calls h c = T-not (isClosed battery (ledger calls)) h (is-closed battery (ledger calls) .1 c)
+
+-- ---- after each row
+
+infixr 20 _and_
+abbrev _and_ : {A B : Type 0} → A → B → A × B
+a and b = (a, b)
+
+abbrev Owes : Row → Type 0
+Owes r = (answers : List ℕ) (after : Record) (contactor : Contactor) → AfterList (typeOr1 (r .battery)) (r .calls) answers after contactor
+    → Each (Seen answers after contactor) (r .shows)
+
+each-row : Each Owes rows
+unfolding rows refusal plausible failedMask failedCount ones extremes permitted protection isClosed
+each-row =
+    (λ answers after contactor owed. owed .answered and owed .state and owed .last and tt)
+    and (λ answers after contactor owed. owed .answered and owed .state and owed .test and owed .closed .1 (closed-on 1 example tt) and tt)
+    and (λ answers after contactor owed. owed .answered and owed .state and tt)
+    and (λ answers after contactor owed. owed .commands and owed .command and tt)
+    and (λ answers after contactor owed. owed .failedMask and owed .failedCount and owed .test and tt)
+    and (λ answers after contactor owed. owed .charged and owed .discharged and tt)
+    and (λ answers after contactor owed.
+    owed .override
+    and owed .tripped 1 (omega arith) .1 (tripped-on 1 1 (lowCellsUnder true) tt)
+    and (λ h. not-tripped-on 1 0 (lowCellsUnder true) tt (owed .tripped 0 (omega arith) .0 h))
+    and owed .longTerm
+    and owed .shortTerm
+    and owed .closed .1 (closed-on 1 (lowCellsUnder true) tt)
+    and tt)
+    and (λ answers after contactor owed.
+    owed .state
+    and owed .command
+    and owed .tripped 1 (omega arith) .1 (tripped-on 1 1 lowCellsForced tt)
+    and (λ h. not-closed-on 1 lowCellsForced tt (owed .closed .0 h))
+    and tt)
+    and (λ answers after contactor owed. (λ h. not-tripped-on 1 0 overPowerLoss tt (owed .tripped 0 (omega arith) .0 h)) and owed .longTerm and tt)
+    and (λ answers after contactor owed. owed .tripped 0 (omega arith) .1 (tripped-on 1 0 betweenAfterTrip tt) and owed .shortTerm and tt)
+    and (λ answers after contactor owed. owed .longTerm and owed .shortTerm and tt)
+    and (λ answers after contactor owed. owed .batteryType and owed .answered and tt)
+    and tt
+
+at-index : {A : Type 0} (P : A → Type 0) (xs : List A) → Each P xs → (i : ℕ) → i < length xs → (d : A) → P (getD xs i d)
+at-index P [] ps i h d = absurd (not-suc-le-zero h)
+at-index P (x ∷ xs) ps zero h d = ps .0
+at-index P (x ∷ xs) ps (suc i) h d = at-index P xs (ps .1) i (le-of-suc-le-suc h) d
+
+pub shows : (engine : Engine) → AfterEveryList engine → (i : ℕ) → i < length rows → (d : Row) → Shows engine (getD rows i d)
+shows engine claims i h d answers after contactor run = at-index Owes rows each-row i h d answers after contactor (claims _ _ _ _ _ run)
+
+-- ---- the numbers of type numbers, and the record beside 1
+
+module _ (starter : Starter) (claims : OfEveryType starter) (answer : ℕ) (start : Record) where
+  pub type-0-gets-1 : starter 0 answer start → (answer ≡ 1) × starter 1 0 start
+  type-0-gets-1 starts = let owed = claims _ _ _ starts in (owed .number, owed .ofItsType)
+
+  pub type-3-gets-0 : starter 3 answer start → (answer ≡ 0) × (start .live .battery ≡ 3)
+  type-3-gets-0 starts = let owed = claims _ _ _ starts in (owed .number, owed .empty .batteryType)
+
+  pub type-4-gets-1 : starter 4 answer start → (answer ≡ 1) × starter 1 0 start
+  type-4-gets-1 starts = let owed = claims _ _ _ starts in (owed .number, owed .ofItsType)
+
+-- ---- two lists alike but for override: one trip, held off the contactor in the first run alone
+
+module _
+    (engine : Engine)
+    (claims : AnyTwoLists engine)
+    (given₁ given₂ : List ℕ)
+    (after₁ after₂ : Record)
+    (contactor₁ contactor₂ : Contactor)
+    (run₁ : engine 1 (lowCellsUnder true) given₁ after₁ contactor₁)
+    (run₂ : engine 1 (lowCellsUnder false) given₂ after₂ contactor₂) where
+  alike : Alike (lowCellsUnder true) (lowCellsUnder false)
+  alike = same _ (same _ (switched _ true false (same _ (same _ none))))
+
+  owed : TwoRuns 1 (lowCellsUnder true) (lowCellsUnder false) given₁ given₂ after₁ after₂ contactor₁ contactor₂
+  owed = claims 1 _ _ alike _ _ _ _ _ _ run₁ run₂
+
+  pub accepted-in-the-second : given₂ ≡ 0 ∷ 0 ∷ 0 ∷ 0 ∷ 0 ∷ []
+  unfolding refusal
+  accepted-in-the-second = sym (owed .sameAnswers) ∙ owed .ledgerAnswers₁
+
+  pub operational-in-the-second : stateNumber (after₂ .live .control .state) ≡ 2
+  unfolding refusal
+  operational-in-the-second = sym (owed .state) ∙ owed .laidDown₁ .state
+
+  pub tripped-in-the-second : T (keptOf after₂ 1 .tripped)
+  unfolding refusal plausible extremes permitted protection
+  tripped-in-the-second = subst T (owed .tripped 1 (omega arith)) (owed .laidDown₁ .tripped 1 (omega arith) .1 (tripped-on 1 1 (lowCellsUnder true) tt))
+
+  pub recorded-in-the-second : longEntries (after₂ .stores .faults) ≡ lowCellTrip
+  unfolding refusal plausible extremes permitted protection
+  recorded-in-the-second = sym (owed .longTerm) ∙ owed .laidDown₁ .longTerm
+
+  pub closed-in-the-first : contactorNumber contactor₁ ≡ 1
+  unfolding refusal plausible extremes permitted protection isClosed
+  closed-in-the-first = owed .closed₁ .1 (closed-on 1 (lowCellsUnder true) tt)
+
+  pub open-in-the-second : contactorNumber contactor₂ ≢ 1
+  unfolding refusal plausible extremes permitted protection isClosed
+  open-in-the-second h = not-closed-on 1 (lowCellsUnder false) tt (owed .closed₂ .0 h)
+
+  pub contactors-differ : contactorNumber contactor₁ ≢ contactorNumber contactor₂
+  unfolding refusal plausible extremes permitted protection isClosed
+  contactors-differ =
+      owed .contactorsDiffer .1
+      (record { justOne = true≢false; permits = closed .permits; some = (1, omega arith, one); allLiftable = liftable (closed .protections) })
+    where
+      closed : Closed 1 (ledger (lowCellsUnder true))
+      closed = closed-on 1 (lowCellsUnder true) tt
+
+      one : TrippedOn 1 (ledger (lowCellsUnder true)) 1
+      one = tripped-on 1 1 (lowCellsUnder true) tt
+
+      liftable : (AllLiftable 1 (ledger (lowCellsUnder true)) × InForce (ledger (lowCellsUnder true))) ⊎ NoneTripped 1 (ledger (lowCellsUnder true))
+          → AllLiftable 1 (ledger (lowCellsUnder true))
+      liftable (inl held) = held .0
+      liftable (inr clear) = absurd (clear 1 (omega arith) one)
+
+-- ---- one call: a record of type 4, and an unpowered one
+
+module _ (call : Record → Event → ℕ → Record → Type 0) (claims : OnEveryRecord call) (before : Record) (answer : ℕ) (after : Record) where
+  abbrev Called : Type 0
+  Called = call before (cellsOf 0 3_300) answer after
+
+  five : Called → before .live .battery ≡ 4 → answer ≡ 5
+  five called type =
+      let unsound : ¬ Sound before = λ s. subst (λ (b : ℕ). T (isType b)) type (s .battery) in
+      claims _ _ _ _ called .unsound .1 unsound
+
+  pub type-4-is-unsound : Called → before .live .battery ≡ 4 → (answer ≡ 5) × (after ≡ before)
+  type-4-is-unsound called type =
+      (five called type, claims _ _ _ _ called .unchanged (λ z. let no : _≡_ {A = ℕ} 5 0 = sym (five called type) ∙ z in omega (arith, no)))
+
+  pub unpowered-refuses : Called → Sound before → before .live .control .state ≡ Unpowered → before .live .last ≡ ms 0 → (answer ≡ 8) × (after ≡ before)
+  unfolding refusal
+  unpowered-refuses called s off start = (eight, claims _ _ _ _ called .unchanged (λ z. let no : _≡_ {A = ℕ} 8 0 = sym eight ∙ z in omega (arith, no)))
+    where
+      eight : answer ≡ 8
+      eight = claims _ _ _ _ called .byTable s ∙ rw (off, start) refl
+
+-- "number 5 never arises": on what a list leaves
+pub never-5 : (engine : Engine) → AfterEveryList engine → (call : Record → Event → ℕ → Record → Type 0) → OnEveryRecord call
+    → (battery : ℕ) (calls : List Event) (given : List ℕ) (before : Record) (contactor : Contactor) → engine battery calls given before contactor
+    → (e : Event) (answer : ℕ) (after : Record) → call before e answer after → answer ≢ 5
+never-5 engine lists call calls-owe battery calls given before contactor run e answer after called is =
+    calls-owe before e answer after called .unsound .0 is (lists battery calls given before contactor run .sound)

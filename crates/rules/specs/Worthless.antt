@@ -16,7 +16,7 @@ use Rattle.rules.specs.declared.calls.Event.the-variants.{Measurement, P
 use Rattle.rules.specs.declared.stores.Entry.{Entry}
 use Rattle.rules.specs.declared.stores.Entry.the-variants.{Trip}
 use Rattle.rules.specs.declared.battery.Record.{Record}
-use Rattle.rules.specs.Quantities.{mV, mA, ms, dC}
+use Rattle.rules.specs.Quantities.{mV, mA, ms, dC, mAms}
 use Rattle.rules.specs.Numbers.{stateNumber, commandNumber, overrideNumber, testNumber, contactorNumber}
 use Rattle.rules.specs.Shown.{keptOf, longEntries, shortEntries}
 use Rattle.rules.specs.Claims.{Engine}
@@ -44,8 +44,8 @@ Seen given after contactor (failedMask n) = after .live .watch .mask ≡ n
 Seen given after contactor (failedCount n) = after .live .watch .failed ≡ n
 Seen given after contactor (tripped number) = T (keptOf after number .tripped)
 Seen given after contactor (clear number) = ¬ T (keptOf after number .tripped)
-Seen given after contactor (charged n) = after .live .tally .charged .0 ≡ n
-Seen given after contactor (discharged n) = after .live .tally .discharged .0 ≡ n
+Seen given after contactor (charged n) = after .live .tally .charged ≡ mAms n
+Seen given after contactor (discharged n) = after .live .tally .discharged ≡ mAms n
 Seen given after contactor (longTerm es) = longEntries (after .stores .faults) ≡ es
 Seen given after contactor (shortTerm es) = shortEntries (after .stores .recent) ≡ es
 Seen given after contactor closed = contactorNumber contactor ≡ 1

@@ -12,7 +12,7 @@ use Rattle.rules.specs.declared.states.Contactor.{Contactor}
 use Rattle.rules.specs.declared.calls.Command.the-variants.{Automated, Open, ForceClosed}
 use Rattle.rules.specs.declared.calls.Request.the-variants.{Operational, Maintenance}
 use Rattle.rules.specs.declared.calls.Event.{Event}
-use Rattle.rules.specs.declared.calls.Event.the-variants.{Measurement, PowerOn, PowerLoss, ContactorCommand, StateRequest, BattleOverride, ClearLongTerm}
+use Rattle.rules.specs.declared.calls.Event.the-variants.{Measurement, PowerOn, PowerLoss, ContactorCommand, StateRequest, BattleOverride}
 use Rattle.rules.specs.declared.stores.Entry.{Entry}
 use Rattle.rules.specs.declared.stores.Entry.the-variants.{Trip}
 use Rattle.rules.specs.declared.battery.Record.{Record}

@@ -17,7 +17,7 @@ use Rattle.rules.specs.Stores.{longTerm, shortTerm}
 use Rattle.rules.specs.Contactor.{Closed, ContactorsDiffer}
 use Rattle.rules.specs.Alike.{Alike}
 use Rattle.rules.specs.Shown.{keptOf, longEntries, shortEntries}
-use Rattle.rules.specs.Claims.{typeOr1, Engine, AfterList, AfterEveryList, TwoRuns, AnyTwoLists, Starter, FreshOf, OfEveryType, Refused, OnEveryRecord}
+use Rattle.rules.specs.Claims.{typeOr1, Engine, AfterList, AfterEveryList, TwoRuns, AnyTwoLists, Starter, OfEveryType, Refused, OnEveryRecord}
 use Rattle.rules.proofs.Decide.{is-tripped, same-test}
 use Rattle.step.specs.Fresh.{freshRecord, fresh}
 use Rattle.step.specs.Sound.{sound}

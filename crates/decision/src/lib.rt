@@ -1,9 +1,9 @@
-// What a run does next. All that decides it stands here; the rest of the program does what is decided.
+// What a run of the program does next. All that decides it stands here; `console` does what is decided.
 ghost use mathlib.Core.Path.{_≡_};
-ghost use Rattle.console.specs.Decisions.{afterLines, afterPart, afterRead, reads, ends};
+ghost use Rattle.decision.specs.Decisions.{afterLines, afterPart, afterRead, reads, ends};
 use report::Why;
 
-pub(crate) enum Next {
+pub enum Next {
     // the rest of what is in the buffer
     Again,
     // a read
@@ -30,7 +30,7 @@ fn after_lines(why: Why) -> Next
 }
 
 // After the lines of a part: nothing goes on, and nothing is closed, where they were not all written.
-pub(crate) fn after_part(whole: bool, why: Why) -> Next
+pub fn after_part(whole: bool, why: Why) -> Next
     ensures { λ n. ⌜ n ≡ afterPart whole why ⌝ }
 {
     if whole {
@@ -40,7 +40,7 @@ pub(crate) fn after_part(whole: bool, why: Why) -> Next
 }
 
 // After a read: the input has ended only where the read answered 0.
-pub(crate) fn after_read(got: isize) -> Next
+pub fn after_read(got: isize) -> Next
     ensures { λ n. ⌜ n ≡ afterRead got ⌝ }
 {
     if got < 0 {
@@ -52,7 +52,7 @@ pub(crate) fn after_read(got: isize) -> Next
     Next::Close
 }
 
-pub(crate) fn is_read(next: Next) -> bool
+pub fn is_read(next: Next) -> bool
     ensures { λ b. ⌜ b ≡ reads next ⌝ }
 {
     match next {
@@ -66,7 +66,7 @@ pub(crate) fn is_read(next: Next) -> bool
 }
 
 // Whether the run is over with it.
-pub(crate) fn is_end(next: Next) -> bool
+pub fn is_end(next: Next) -> bool
     ensures { λ b. ⌜ b ≡ ends next ⌝ }
 {
     match next {

@@ -4,8 +4,8 @@ use mathlib.Core.Bool.{Bool, true, false, cond}
 use lib.IntN.{ℤ, pos, negsuc}
 use Rattle.report.specs.declared.Why.{Why}
 use Rattle.report.specs.declared.Why.the-variants.{Full, End, Cut, Refused, Spent}
-use Rattle.console.specs.declared.decision.Next.{Next}
-use Rattle.console.specs.declared.decision.Next.the-variants.{Again, Read, Close, Unread, Unwritten, Uncounted}
+use Rattle.decision.specs.declared.Next.{Next}
+use Rattle.decision.specs.declared.Next.the-variants.{Again, Read, Close, Unread, Unwritten, Uncounted}
 
 -- after a part whose lines were all written
 abbrev pub afterLines : Why → Next

@@ -2,9 +2,9 @@ use mir.Val.{toZ, ofZ}
 use mir.Syntax.{w64}
 use mathlib.Core.Path.{_≡_}
 use borrow.Author.Needs.{needs}
-use Rattle.console.proofs.Decided.{failed, came, ended}
-use Rattle.console.proofs.decision.after_read.Statement.{statement}
-use Rattle.console.proofs.decision.after_read.Tie as tie
+use Rattle.decision.proofs.Signs.{failed, came, ended}
+use Rattle.decision.proofs.after_read.Statement.{statement}
+use Rattle.decision.proofs.after_read.Tie as tie
 
 same : (c : tie.Start) → toZ w64 (ofZ w64 (c .args .got)) ≡ c .args .got
 same c = search needs

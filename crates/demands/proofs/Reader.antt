@@ -20,7 +20,7 @@ use Rattle.rules.specs.Bytes.{eventForms, readAt}
 use Rattle.rules.proofs.ByteLaws.{read-end, read-refused}
 use Rattle.log.specs.declared.reader.Reader.{Reader}
 use Rattle.log.specs.declared.reader.Read.{Read}
-use Rattle.log.specs.Position.{positionAfter, nextPosition, PartFrom}
+use Rattle.position.specs.Position.{positionAfter, nextPosition, PartFrom}
 use Rattle.log.proofs.reader.next as next
 use Rattle.log.proofs.reader.event_at.Reads as event-at
 use Rattle.demands.specs.Answers.{ReadAllows, ReaderAllows}

@@ -27,7 +27,7 @@ use borrow.Table.OneValue.{part-in-at, part-out-at}
 use denote.Lend.{lends-ref, ref-back}
 use denote.Memory.{partAt, mem as inMemory}
 use denote.Enum.Laws as EL
-use Rattle.log.specs.Position.{nextPosition, PartFrom}
+use Rattle.position.specs.Position.{nextPosition, PartFrom}
 use Rattle.rules.specs.Bytes.{readAt, eventForms}
 use Rattle.rules.specs.Numbers.{answerOfReadEvent}
 use Rattle.rules.proofs.answers.ReadEvent as S

@@ -1,4 +1,3 @@
-pub mod Spelling
 pub mod Putting
 pub mod Answers
 pub mod Lining

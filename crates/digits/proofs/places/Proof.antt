@@ -5,9 +5,9 @@ use borrow.Author.Needs.{needs}
 use lib.ListN.{length}
 use Rattle.rules.specs.Text.{decimal}
 use Rattle.rules.proofs.Decimals.{decimal-length}
-use Rattle.report.proofs.Spelling.{left, left-is, counted, counted-all}
-use Rattle.report.proofs.digits.places.Statement.{statement}
-use Rattle.report.proofs.digits.places.Tie as tie
+use Rattle.digits.proofs.Spelling.{left, left-is, counted, counted-all}
+use Rattle.digits.proofs.places.Statement.{statement}
+use Rattle.digits.proofs.places.Tie as tie
 
 abbrev Inv-loop : tie.InvT-loop
 Inv-loop n k₀ rest₀ k rest = k + left rest ≡ length (decimal n)

@@ -1,7 +1,7 @@
 use borrow.Author.Needs.{needs}
-use Rattle.report.proofs.Spelling.{Spelled, spelled-none, spelled-more, spelled-all}
-use Rattle.report.proofs.digits.spell.Statement.{statement}
-use Rattle.report.proofs.digits.spell.Tie as tie
+use Rattle.digits.proofs.Spelling.{Spelled, spelled-none, spelled-more, spelled-all}
+use Rattle.digits.proofs.spell.Statement.{statement}
+use Rattle.digits.proofs.spell.Tie as tie
 
 abbrev Inv-loop : tie.InvT-loop
 Inv-loop n k out₀ at i₀ rest₀ out i rest = Spelled n k at out₀ i rest out

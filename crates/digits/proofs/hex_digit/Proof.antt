@@ -1,8 +1,8 @@
 use mathlib.Core.Path.{sym}
-use Rattle.report.proofs.Spelling.{digit-small, digit-large}
+use Rattle.digits.proofs.Spelling.{digit-small, digit-large}
 use borrow.Author.Needs.{needs}
-use Rattle.report.proofs.digits.hex_digit.Statement.{statement}
-use Rattle.report.proofs.digits.hex_digit.Tie as tie
+use Rattle.digits.proofs.hex_digit.Statement.{statement}
+use Rattle.digits.proofs.hex_digit.Tie as tie
 
 add-result : tie.Need-add-result
 add-result c = search needs

@@ -166,7 +166,7 @@ fn print_bytes(s: &[u8]) {
 }
 
 fn event_into(e: Event, buffer: &mut [u8]) {
-    print_written(events::write::write_event(e, buffer));
+    print_written(event_writer::write_event(e, buffer));
     print_bytes(buffer);
 }
 
@@ -191,7 +191,7 @@ fn write_entry(e: Entry, room: usize) {
 }
 
 fn event_case(s: &[u8], position: usize, room: usize) {
-    match events::read::read_event(s, position) {
+    match event_reader::read_event(s, position) {
         ReadEvent::Found(e, next) => {
             print_event(e);
             text(b", next");

@@ -22,9 +22,9 @@ use Rattle.engine.proofs.judge as run-judge
 use Rattle.engine.proofs.write_stores as run-write-stores
 use Rattle.engine.proofs.sound as run-sound
 use Rattle.engine.proofs.contactor as run-contactor
-use Rattle.events.proofs.read.read_event as run-read-event
+use Rattle.event_reader.proofs.read_event as run-read-event
 use Rattle.entries.proofs.read.read_entry as run-read-entry
-use Rattle.events.proofs.write.write_event as run-write-event
+use Rattle.event_writer.proofs.write_event as run-write-event
 use Rattle.entries.proofs.write.write_entry as run-write-entry
 use Rattle.export.proofs.export_long as run-export-long
 use Rattle.export.proofs.export_short as run-export-short

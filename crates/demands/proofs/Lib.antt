@@ -1,4 +1,3 @@
-pub mod Listed
 pub mod Reader
 pub mod Ends
 pub mod First

@@ -3,7 +3,7 @@
 // read makes one where the last stood.
 ghost use mathlib.Core.Path.{_≡_};
 ghost use lib.ListN.{drop};
-ghost use Rattle.position.specs.Position.{nextPosition};
+ghost use Rattle.rules.specs.Bytes.{nextPosition};
 use crate::print;
 use log::reader;
 use rules::answers::ReadEvent;

@@ -12,8 +12,8 @@ use Rattle.rules.specs.Numbers.{eventKind, eventValues, answerOfReadEvent}
 use Rattle.rules.specs.declared.answers.ReadEvent.{ReadEvent}
 use Rattle.rules.specs.declared.answers.ReadEvent.the-variants.{Found, End}
 use Rattle.rules.specs.declared.calls.Event.{Event}
-use Rattle.events.proofs.read.read_event.Reads as read-event
-use Rattle.events.proofs.write.write_event.Reads as write-event
+use Rattle.event_reader.proofs.read_event.Reads as read-event
+use Rattle.event_writer.proofs.write_event.Reads as write-event
 use Rattle.roundtrip.proofs.Chains.{written-then-read, read-then-written, whole-log}
 use Rattle.roundtrip.specs.Chains.{Items, Reader, Writer, bytesOf, ReadsBack, ReadToEnd, Wrote, WrittenAgain, Whole}
 

@@ -13,4 +13,5 @@ pub mod Closing
 pub mod Worthless
 pub mod Decimals
 pub mod ByteLaws
+pub mod Listed
 pub mod Parts

@@ -14,6 +14,7 @@ pub mod Alike
 pub mod Shown
 pub mod Soundness
 pub mod Bytes
+pub mod Answers
 pub mod Text
 pub mod Claims
 pub mod Examples

@@ -27,8 +27,8 @@ use borrow.Table.OneValue.{part-in-at, part-out-at}
 use denote.Lend.{lends-ref, ref-back}
 use denote.Memory.{partAt, mem as inMemory}
 use denote.Enum.Laws as EL
-use Rattle.position.specs.Position.{nextPosition, PartFrom}
-use Rattle.rules.specs.Bytes.{readAt, eventForms}
+use Rattle.position.specs.Position.{PartFrom}
+use Rattle.rules.specs.Bytes.{readAt, eventForms, nextPosition}
 use Rattle.rules.specs.Numbers.{answerOfReadEvent}
 use Rattle.rules.proofs.answers.ReadEvent as S
 use Rattle.rules.proofs.answers.ReadEvent.Laws as S′

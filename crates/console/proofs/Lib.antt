@@ -1,4 +1,3 @@
-pub mod Answers
 pub mod Bounds
 pub mod Decided
 pub mod Front

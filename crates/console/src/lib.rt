@@ -2,7 +2,6 @@
 // standard error and writes no last line, so that what it wrote never looks like a whole table.
 mod parts;
 mod tail;
-mod transfer;
 
 use report::Why;
 

@@ -1,12 +1,12 @@
 use borrow.Author.Needs.{needs}
-use Rattle.console.proofs.transfer.write_some.Statement.{statement}
-use Rattle.console.proofs.transfer.write_some.Tie as tie
+use Rattle.transfer.proofs.write_some.Statement.{statement}
+use Rattle.transfer.proofs.write_some.Tie as tie
 
 abbrev Inv-loop : tie.InvT-loop
-Inv-loop fd buffer turns₀ turns = Unit {0}
+Inv-loop fd bytes turns₀ turns = Unit {0}
 
 abbrev μ-loop : tie.MeasureT-loop
-μ-loop fd buffer turns₀ turns = turns
+μ-loop fd bytes turns₀ turns = turns
 
 loop-holds : tie.Need-loop-holds Inv-loop μ-loop
 loop-holds c = search needs

@@ -1,11 +1,11 @@
 use mir.Val.{toZ, ofZ}
 use mir.Syntax.{w64}
-use Rattle.console.proofs.Answers.{same-answer}
+use Rattle.transfer.proofs.Answers.{same-answer}
 use borrow.Author.Needs.{needs}
 use lib.ListN.{length}
 use mathlib.Core.Path.{_≡_}
-use Rattle.console.proofs.transfer.read_some.Statement.{statement}
-use Rattle.console.proofs.transfer.read_some.Tie as tie
+use Rattle.transfer.proofs.read_some.Statement.{statement}
+use Rattle.transfer.proofs.read_some.Tie as tie
 
 abbrev Inv-loop : tie.InvT-loop
 Inv-loop fd buffer₀ turns₀ buffer turns = length buffer ≡ length buffer₀

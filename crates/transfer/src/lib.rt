@@ -5,7 +5,7 @@ ghost use Rattle.libc.specs.Io.{Moved};
 
 // One read that a signal did not break off: how many bytes it put at the start of the buffer, 0 at the end of the input, -1 where it
 // failed.
-pub(crate) fn read_some(fd: i32, buffer: &mut [u8]) -> isize
+pub fn read_some(fd: i32, buffer: &mut [u8]) -> isize
     ensures { λ r. ⌜ Moved (length (now (buffer .entry))) r ⌝ }
 {
     let mut turns = u64::MAX;
@@ -22,12 +22,12 @@ pub(crate) fn read_some(fd: i32, buffer: &mut [u8]) -> isize
     -1
 }
 
-fn write_some(fd: i32, buffer: &[u8]) -> isize
-    ensures { λ r. ⌜ Moved (length (now (buffer .entry))) r ⌝ }
+fn write_some(fd: i32, bytes: &[u8]) -> isize
+    ensures { λ r. ⌜ Moved (length (now (bytes .entry))) r ⌝ }
 {
     let mut turns = u64::MAX;
     while turns > 0 {
-        let put = libc::write(fd, buffer);
+        let put = libc::write(fd, bytes);
         if put >= 0 {
             return put;
         }
@@ -39,14 +39,14 @@ fn write_some(fd: i32, buffer: &[u8]) -> isize
     -1
 }
 
-// Writes the buffer, and answers how much of it was written. Where that is not all, errno says why.
-pub(crate) fn write_all(fd: i32, buffer: &[u8]) -> usize
-    ensures { λ r. ⌜ r ≤ length (now (buffer .entry)) ⌝ }
+// Writes the bytes, and answers how many of them were written. Where that is not all, errno says why.
+pub fn write_all(fd: i32, bytes: &[u8]) -> usize
+    ensures { λ r. ⌜ r ≤ length (now (bytes .entry)) ⌝ }
 {
     let mut done: usize = 0;
-    while done < buffer.len() {
-        let put = write_some(fd, &buffer[done..]);
-        let n = io::count(put, &buffer[done..]);
+    while done < bytes.len() {
+        let put = write_some(fd, &bytes[done..]);
+        let n = io::count(put, &bytes[done..]);
         if n == 0 {
             return done;
         }

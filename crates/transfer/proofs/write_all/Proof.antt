@@ -1,14 +1,14 @@
 use borrow.Author.Needs.{needs}
 use lib.ListN.{length}
 use Prim.Native.Nat.{_≤_, _-_}
-use Rattle.console.proofs.transfer.write_all.Statement.{statement}
-use Rattle.console.proofs.transfer.write_all.Tie as tie
+use Rattle.transfer.proofs.write_all.Statement.{statement}
+use Rattle.transfer.proofs.write_all.Tie as tie
 
 abbrev Inv-loop : tie.InvT-loop
-Inv-loop fd buffer done₀ done = done ≤ length buffer
+Inv-loop fd bytes done₀ done = done ≤ length bytes
 
 abbrev μ-loop : tie.MeasureT-loop
-μ-loop fd buffer done₀ done = length buffer - done
+μ-loop fd bytes done₀ done = length bytes - done
 
 loop-holds : tie.Need-loop-holds Inv-loop μ-loop
 loop-holds c = search needs

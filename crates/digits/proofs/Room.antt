@@ -1,10 +1,10 @@
 -- With room for the longest number all of its digits are written, and else none.
-use mathlib.Core.Path.{_≡_, refl, sym, ap, _∙_}
-use mathlib.Core.List.{List, []}
+use mathlib.Core.Path.{_≡_, refl, sym, ap}
+use mathlib.Core.List.{List}
 use Prim.Native.Nat.{ℕ, _+_, _^_, _<_, _≤_}
 use native.Mathlib.Omega.{arith}
 use borrow.Author.Tests.{lt-ltb, le-ltb}
-use lib.ListN.{length, take, drop, take-append-drop}
+use lib.ListN.{length, take-append-drop}
 use Rattle.rules.specs.Bytes.{overwritten}
 use Rattle.rules.specs.Text.{decimal}
 use Rattle.rules.proofs.Decimals.{decimal-length}

@@ -1,4 +1,4 @@
--- A signed current as the code reads it, and the products that it goes into. Assumes nothing.
+-- A signed current as the code reads it, and the products that it goes into.
 use mathlib.Core.Path.{_≡_, refl, subst, ap, _∙_}
 use mathlib.Core.Bool.{true, false}
 use Prim.Native.Nat.{ℕ, _*_, _<_, _≤_, _^_}

@@ -16,8 +16,8 @@ pub fn run(input: i32, output: i32) {
     let have = io::count(got, &bytes);
     let opening = report::opening(&bytes[..have]);
     let progress = opening.progress;
-    if (have == 0) | (opening.number != 0) {
-        parts::close(output, progress, Why::Refused(opening.number));
+    if (have == 0) | (opening.refusal != 0) {
+        parts::close(output, progress, Why::Refused(opening.refusal));
         return;
     }
     let start = parts::Stand {

@@ -1,12 +1,12 @@
--- The contactor's test as the code makes it: what is liftable is known for each number. Assumes nothing.
+-- The contactor's test as the code makes it: what is liftable is known for each number.
 use mathlib.Core.Path.{_≡_, refl, sym}
 use mathlib.Core.Bool.{Bool, true, false, not, _&&_, _||_}
 use mathlib.Core.List.{List}
 use Prim.Native.Nat.{ℕ}
 use Rattle.rules.specs.declared.states.Contactor.the-variants.{Open, Closed}
-use Rattle.rules.specs.declared.tracking.ProtectionState.{ProtectionState}
+use Rattle.rules.specs.declared.session.ProtectionState.{ProtectionState}
 use Rattle.rules.specs.declared.battery.Record.{Record}
-use Rattle.rules.specs.Protections.{protection}
+use Rattle.rules.specs.Protections.{rowOf}
 use Rattle.step.specs.Sound.{at}
 use Rattle.step.specs.Close.{lifted, closes, contactor}
 
@@ -27,7 +27,7 @@ pub lifted-is : (battery : ℕ) (on : Bool) (p : List ProtectionState)
     && ((not (at p 3 .tripped) || on)
     && (not (at p 4 .tripped) && (not (at p 5 .tripped) && ((not (at p 6 .tripped) || on) && (not (at p 7 .tripped) || on))))))))
     ≡ lifted battery on p
-unfolding protection
+unfolding rowOf
 lifted-is battery on p = sym (simp (fixed, and-true))
 
 pub closed : (r : Record) (b : Bool) → b ≡ closes (r .live) → b ≡ true → Closed ≡ contactor r

@@ -5,10 +5,10 @@ ghost use Rattle.step.specs.Close.{hasPassed, lifted as liftedOf, closes as clo
 use rules::battery::Live;
 use rules::battery::Record;
 use rules::calls::Command;
+use rules::session::ProtectionState;
 use rules::states::Contactor;
 use rules::states::State;
 use rules::states::TestResult;
-use rules::tracking::ProtectionState;
 
 fn has_passed(t: TestResult) -> bool
     ensures { λ b. ⌜ b ≡ hasPassed t ⌝ }

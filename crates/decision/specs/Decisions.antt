@@ -12,7 +12,7 @@ abbrev pub afterLines : Why → Next
 afterLines Full = Again
 afterLines End = Read
 afterLines Cut = Read
-afterLines (Refused number) = Close
+afterLines (Refused refusal) = Close
 afterLines Spent = Uncounted
 
 abbrev pub afterPart : Bool → Why → Next

@@ -1,4 +1,4 @@
--- The exports of both stores after every run of the code, and after every two. Assumes nothing.
+-- The exports of both stores after every run of the code, and after every two.
 use Rattle.rules.specs.Shown.{longEntries, shortEntries}
 use Rattle.export.specs.Claims.{ExportsAfterEveryList, ExportsOfAnyTwoLists}
 use Rattle.export.proofs.Allowed.{CodeLong, CodeShort, long-exported, short-exported, exported-alike}
@@ -17,9 +17,9 @@ exports-of-any-two-lists battery calls₁ calls₂ alike given₁ given₂ after
     let owed = code-any-two-lists battery calls₁ calls₂ alike given₁ given₂ after₁ after₂ closing₁ closing₂ run₁ run₂ in
     record {
       longTerm = λ buffer left₁ left₂ answer₁ answer₂ c₁ c₂.
-          exported-alike (longEntries (after₂ .stores .faults)) buffer left₁ left₂ answer₁ answer₂
+          exported-alike (longEntries (after₂ .stores .long)) buffer left₁ left₂ answer₁ answer₂
           (rw (← (owed .longTerm)) (long-exported (owed .laidDown₁ .sound) c₁)) (long-exported (owed .laidDown₂ .sound) c₂);
       shortTerm = λ buffer left₁ left₂ answer₁ answer₂ c₁ c₂.
-          exported-alike (shortEntries (after₂ .stores .recent)) buffer left₁ left₂ answer₁ answer₂
+          exported-alike (shortEntries (after₂ .stores .short)) buffer left₁ left₂ answer₁ answer₂
           (rw (← (owed .shortTerm)) (short-exported (owed .laidDown₁ .sound) c₁)) (short-exported (owed .laidDown₂ .sound) c₂);
     }

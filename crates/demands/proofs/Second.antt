@@ -1,4 +1,4 @@
--- Demand 2, clause by clause. Assumes nothing.
+-- Demand 2, clause by clause.
 use mathlib.Core.Path.{_≡_}
 use mathlib.Core.Logic.{_↔_}
 use mathlib.Core.List.{List}
@@ -73,7 +73,7 @@ module _
   pub failed-count-is : after .live .watch .failed ≡ failedCountOf (ledger calls .measured)
   failed-count-is = owed .failedCount
 
-  pub tripped-is : (number : ℕ) → number < 8 → T (keptOf after number .tripped) ↔ TrippedOn (typeOr1 battery) (ledger calls) number
+  pub tripped-is : (protection : ℕ) → protection < 8 → T (keptOf after protection .tripped) ↔ TrippedOn (typeOr1 battery) (ledger calls) protection
   tripped-is = owed .tripped
 
   pub charged-is : after .live .tally .charged ≡ charged (accepted calls)
@@ -82,10 +82,10 @@ module _
   pub discharged-is : after .live .tally .discharged ≡ discharged (accepted calls)
   discharged-is = owed .discharged
 
-  pub long-term-is : longEntries (after .stores .faults) ≡ longTerm (typeOr1 battery) (accepted calls)
+  pub long-term-is : longEntries (after .stores .long) ≡ longTerm (typeOr1 battery) (accepted calls)
   long-term-is = owed .longTerm
 
-  pub short-term-is : shortEntries (after .stores .recent) ≡ shortTerm (typeOr1 battery) (accepted calls)
+  pub short-term-is : shortEntries (after .stores .short) ≡ shortTerm (typeOr1 battery) (accepted calls)
   short-term-is = owed .shortTerm
 
   -- both stores as the exports write them, oldest entry first, into any buffer

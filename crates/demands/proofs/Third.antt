@@ -1,5 +1,5 @@
 -- Demand 3, clause by clause, of every two runs of the code over two lists alike in all but the on or off values of their override
--- calls. Assumes nothing.
+-- calls.
 use mathlib.Core.Path.{_≡_}
 use mathlib.Core.Logic.{_↔_, _≢_}
 use mathlib.Core.List.{List}
@@ -48,7 +48,7 @@ module _
   pub same-command : commandNumber (after₁ .live .control .command) ≡ commandNumber (after₂ .live .control .command)
   same-command = owed .command
 
-  pub same-tripped : (number : ℕ) → number < 8 → keptOf after₁ number .tripped ≡ keptOf after₂ number .tripped
+  pub same-tripped : (protection : ℕ) → protection < 8 → keptOf after₁ protection .tripped ≡ keptOf after₂ protection .tripped
   same-tripped = owed .tripped
 
   pub same-test : testNumber (after₁ .live .watch .test) ≡ testNumber (after₂ .live .watch .test)
@@ -69,10 +69,10 @@ module _
   pub same-command-count : after₁ .live .tally .commands ≡ after₂ .live .tally .commands
   same-command-count = owed .commands
 
-  pub same-long-term : longEntries (after₁ .stores .faults) ≡ longEntries (after₂ .stores .faults)
+  pub same-long-term : longEntries (after₁ .stores .long) ≡ longEntries (after₂ .stores .long)
   same-long-term = owed .longTerm
 
-  pub same-short-term : shortEntries (after₁ .stores .recent) ≡ shortEntries (after₂ .stores .recent)
+  pub same-short-term : shortEntries (after₁ .stores .short) ≡ shortEntries (after₂ .stores .short)
   same-short-term = owed .shortTerm
 
   -- and as the exports write them: the same answer and the same bytes, whatever the buffer

@@ -1,4 +1,4 @@
--- Decimal digits as the code finds them: how many there are, and each from the last on. Assumes nothing.
+-- Decimal digits as the code finds them: how many there are, and each from the last on.
 use mathlib.Core.Path.{_≡_, refl, sym, ap, _∙_}
 use mathlib.Core.Bool.{Bool, true, false}
 use mathlib.Core.List.{List, [], _∷_, _++_, append-nil, append-assoc}

@@ -1,4 +1,4 @@
--- What a sound record, and a command that is not refused, leave room for. Assumes nothing.
+-- What a sound record, and a command that is not refused, leave room for.
 use mathlib.Core.Path.{_≡_, refl, sym, subst}
 use mathlib.Core.Bool.{Bool, true, false, not, cond}
 use Prim.Native.Nat.{ℕ, _≤_, _<_}

@@ -1,5 +1,4 @@
 -- The claims, of the code: over every chain of results that the contracts of `fresh`, `apply` and `contactor` allow, answers included.
--- Assumes nothing.
 use mathlib.Core.Path.{_≡_, refl, ap, ap₂, _∙_}
 use mathlib.Core.List.{List, [], _∷_}
 use Prim.Native.Nat.{ℕ}
@@ -31,7 +30,7 @@ Has r c = contactor-reads.Post tt (r, tt) c (r, tt)
 pub data Ran : Record → List Event → List ℕ → Record → Type 0 where
   done : {r : Record} → Ran r [] [] r
   called : {r q : Record} {e : Event} {es : List Event} {ns : List ℕ} (o : Outcome) → Gives r e o → Ran (o .after) es ns q
-      → Ran r (e ∷ es) (o .number ∷ ns) q
+      → Ran r (e ∷ es) (o .refusal ∷ ns) q
 
 -- the code as an engine
 pub record CodeRun (battery : ℕ) (calls : List Event) (given : List ℕ) (after : Record) (closing : Contactor) : Type 0 where
@@ -48,7 +47,7 @@ run-is (called {es = es} o g c) = run-is c ∙ ap (λ (x : Outcome). run (x .aft
 
 answers-are : {r q : Record} {es : List Event} {ns : List ℕ} → Ran r es ns q → ns ≡ answers r es
 answers-are done = refl
-answers-are (called {es = es} o g c) = ap₂ _∷_ (ap (λ (x : Outcome). x .number) g) (answers-are c ∙ ap (λ (x : Outcome). answers (x .after) es) g)
+answers-are (called {es = es} o g c) = ap₂ _∷_ (ap (λ (x : Outcome). x .refusal) g) (answers-are c ∙ ap (λ (x : Outcome). answers (x .after) es) g)
 
 step-run : (battery : ℕ) (calls : List Event) (given : List ℕ) (after : Record) (closing : Contactor)
     → CodeRun battery calls given after closing → StepRuns battery calls given after closing
@@ -74,7 +73,7 @@ code-any-two-lists battery calls₁ calls₂ alike given₁ given₂ after₁ af
 
 -- the code's fresh records
 abbrev pub CodeStart : Starter
-CodeStart battery given start = Starts battery (record { number = given; start = start })
+CodeStart battery given start = Starts battery (record { refusal = given; start = start })
 
 pub code-of-every-type : OfEveryType CodeStart
 code-of-every-type = of-every-type
@@ -83,13 +82,13 @@ code-of-every-type = of-every-type
 pub record CodeCall (before : Record) (e : Event) (given : ℕ) (after : Record) : Type 0 where
   pub outcome : Outcome
   pub gives : Gives before e outcome
-  pub number : given ≡ outcome .number
+  pub refusal : given ≡ outcome .refusal
   pub left : after ≡ outcome .after
 
 pub code-on-every-record : OnEveryRecord CodeCall
 code-on-every-record before e given after c =
     on-every-record before e given after (
-      c .number ∙ ap (λ (o : Outcome). o .number) (c .gives),
+      c .refusal ∙ ap (λ (o : Outcome). o .refusal) (c .gives),
       c .left ∙ ap (λ (o : Outcome). o .after) (c .gives),
     )
 

@@ -1,19 +1,19 @@
--- The engine's functions as the code goes through them, and its two parts put together. Assumes nothing.
+-- The engine's functions as the code goes through them, and its two parts put together.
 use mathlib.Core.Path.{_≡_, refl, sym, ap, _∙_}
 use mathlib.Core.Bool.{Bool, true, false, cond, _&&_, true≢false}
 use mathlib.Core.List.{List}
 use Prim.Native.Nat.{ℕ, zero, suc, _+_, _-_}
 use native.Mathlib.Nat.{add-zero}
 use lib.IntN.{ℤ}
-use Rattle.rules.specs.declared.reading.Reading.{Reading}
-use Rattle.rules.specs.declared.tracking.ProtectionState.{ProtectionState}
+use Rattle.rules.specs.declared.sensors.Reading.{Reading}
+use Rattle.rules.specs.declared.session.ProtectionState.{ProtectionState}
 use Rattle.rules.specs.declared.units.Milliamperes.{Milliamperes}
 use Rattle.rules.specs.declared.units.Milliseconds.{Milliseconds}
 use Rattle.rules.specs.declared.units.Charge.{Charge}
 use Rattle.rules.specs.declared.calls.Event.{Event}
 use Rattle.rules.specs.declared.calls.Event.the-variants.{Measurement, PowerOn, PowerLoss, ContactorCommand, StateRequest, BattleOverride, ClearLongTerm}
-use Rattle.rules.specs.declared.tracking.Previous.{Previous}
-use Rattle.rules.specs.declared.tracking.Previous.the-variants.{Nothing, Frame}
+use Rattle.rules.specs.declared.session.Previous.{Previous}
+use Rattle.rules.specs.declared.session.Previous.the-variants.{Nothing, Frame}
 use Rattle.rules.specs.declared.stores.Stores.{Stores}
 use Rattle.rules.specs.declared.battery.Tally.{Tally}
 use Rattle.rules.specs.declared.battery.Live.{Live}
@@ -30,7 +30,7 @@ use Rattle.protection.specs.Rows.{valuesOf}
 use Rattle.store.specs.Changes.{pushAllOf}
 use Rattle.store.proofs.Measured.{unchanged, push-all-of}
 use Rattle.engine.specs.declared.Judged.{Judged}
-use Rattle.engine.specs.Judging.{touches, judgedBy, judged, joined}
+use Rattle.engine.specs.Judging.{changesStores, judgedBy, judged, joined}
 
 -- ---- the accounts
 
@@ -75,24 +75,24 @@ module _ (l : Live) (s : Stores) (e : Event) (a b : Bool) (a-is : a ≡ soundLiv
   of-sound h = rw (← a-is, ← b-is, h) refl
 
   module _ (fine : (a && b) ≡ true) (n : ℕ) (n-is : n ≡ refusalLive l e) where
-    pub accepted : n ≡ 0 → (after : Live) (touched : Bool) → after ≡ advanceLive e l → touched ≡ touches e l after
-        → _≡_ {A = Judged} (record { number = 0; live = after; touched = touched }) (judged l s e)
-    accepted z after touched is t = rw (t, is) (by-refusal 0 (of-sound fine ∙ sym n-is ∙ z))
+    pub accepted : n ≡ 0 → (after : Live) (changed : Bool) → after ≡ advanceLive e l → changed ≡ changesStores e l after
+        → _≡_ {A = Judged} (record { refusal = 0; live = after; changed = changed }) (judged l s e)
+    accepted z after changed is t = rw (t, is) (by-refusal 0 (of-sound fine ∙ sym n-is ∙ z))
 
-    pub refused : ¬ (n ≡ 0) → _≡_ {A = Judged} (record { number = n; live = l; touched = false }) (judged l s e)
+    pub refused : ¬ (n ≡ 0) → _≡_ {A = Judged} (record { refusal = n; live = l; changed = false }) (judged l s e)
     refused z = go n (of-sound fine ∙ sym n-is) z
       where
         go : (k : ℕ) → refusal (record { live = l; stores = s }) e ≡ k → ¬ (k ≡ 0)
-            → _≡_ {A = Judged} (record { number = k; live = l; touched = false }) (judged l s e)
+            → _≡_ {A = Judged} (record { refusal = k; live = l; changed = false }) (judged l s e)
         go zero h z = absurd (z refl)
         go (suc k) h z = by-refusal (suc k) h
 
-  pub unsound : (a && b) ≡ false → _≡_ {A = Judged} (record { number = 5; live = l; touched = false }) (judged l s e)
+  pub unsound : (a && b) ≡ false → _≡_ {A = Judged} (record { refusal = 5; live = l; changed = false }) (judged l s e)
   unsound h = by-refusal 5 (rw (← a-is, ← b-is, h) refl)
 
 -- ---- the two parts together are the call
 
-stores-kept : (e : Event) (l : Live) (s : Stores) → touches e l (advanceLive e l) ≡ false → advanceStores e l (advanceLive e l) s ≡ s
+stores-kept : (e : Event) (l : Live) (s : Stores) → changesStores e l (advanceLive e l) ≡ false → advanceStores e l (advanceLive e l) s ≡ s
 stores-kept (Measurement t r) l s h = unchanged (l .battery) t r (l .watch .protections) (advanceLive (Measurement t r) l .watch .protections) s h
 stores-kept (PowerOn t) l s h = absurd (true≢false h)
 stores-kept (PowerLoss t) l s h = absurd (true≢false h)
@@ -106,36 +106,36 @@ unfolding judged
 joined-is r e = go (refusal r e)
   where
     whole : Stores → Outcome
-    whole s = record { number = 0; after = record { live = advanceLive e (r .live); stores = s } }
+    whole s = record { refusal = 0; after = record { live = advanceLive e (r .live); stores = s } }
 
-    written : (b : Bool) → touches e (r .live) (advanceLive e (r .live)) ≡ b
+    written : (b : Bool) → changesStores e (r .live) (advanceLive e (r .live)) ≡ b
         → joined r e (judgedBy 0 (r .live) e) ≡ answer 0 (advance r e) r
     written true h = rw h refl
     written false h = rw h (ap (λ (s : Stores). whole s) (sym (stores-kept e (r .live) (r .stores) h)))
 
     go : (n : ℕ) → joined r e (judgedBy n (r .live) e) ≡ answer n (advance r e) r
-    go zero = written (touches e (r .live) (advanceLive e (r .live))) refl
+    go zero = written (changesStores e (r .live) (advanceLive e (r .live))) refl
     go (suc n) = refl
 
 module _ (r : Record) (e : Event) (j : Judged) (is : j ≡ judged (r .live) (r .stores) e) where
   pub applied : joined r e j ≡ call r e
   applied = ap (joined r e) is ∙ joined-is r e
 
-  pub touched : j .touched ≡ true → (w : Stores) → w ≡ advanceStores e (r .live) (j .live) (r .stores)
-      → _≡_ {A = Outcome} (record { number = j .number; after = record { live = j .live; stores = w } }) (call r e)
-  touched h w w-is = ap (λ (s : Stores). put s) (w-is ∙ sym by) ∙ applied
+  pub changed : j .changed ≡ true → (w : Stores) → w ≡ advanceStores e (r .live) (j .live) (r .stores)
+      → _≡_ {A = Outcome} (record { refusal = j .refusal; after = record { live = j .live; stores = w } }) (call r e)
+  changed h w w-is = ap (λ (s : Stores). put s) (w-is ∙ sym by) ∙ applied
     where
       put : Stores → Outcome
-      put s = record { number = j .number; after = record { live = j .live; stores = s } }
+      put s = record { refusal = j .refusal; after = record { live = j .live; stores = s } }
 
-      by : cond (j .touched) (advanceStores e (r .live) (j .live) (r .stores)) (r .stores) ≡ advanceStores e (r .live) (j .live) (r .stores)
+      by : cond (j .changed) (advanceStores e (r .live) (j .live) (r .stores)) (r .stores) ≡ advanceStores e (r .live) (j .live) (r .stores)
       by = rw h refl
 
-  pub kept : j .touched ≡ false → _≡_ {A = Outcome} (record { number = j .number; after = record { live = j .live; stores = r .stores } }) (call r e)
+  pub kept : j .changed ≡ false → _≡_ {A = Outcome} (record { refusal = j .refusal; after = record { live = j .live; stores = r .stores } }) (call r e)
   kept h = ap (λ (s : Stores). put s) (sym by) ∙ applied
     where
       put : Stores → Outcome
-      put s = record { number = j .number; after = record { live = j .live; stores = s } }
+      put s = record { refusal = j .refusal; after = record { live = j .live; stores = s } }
 
-      by : cond (j .touched) (advanceStores e (r .live) (j .live) (r .stores)) (r .stores) ≡ r .stores
+      by : cond (j .changed) (advanceStores e (r .live) (j .live) (r .stores)) (r .stores) ≡ r .stores
       by = rw h refl

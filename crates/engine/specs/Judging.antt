@@ -13,18 +13,18 @@ use Rattle.store.specs.Changes.{changedBelow}
 use Rattle.engine.specs.declared.Judged.{Judged}
 
 -- whether an accepted call changes the stores
-abbrev pub touches : Event → Live → Live → Bool
-touches (Measurement t r) before after = changedBelow (before .watch .protections) (after .watch .protections) 8
-touches (PowerOn t) before after = true
-touches (PowerLoss t) before after = true
-touches (ContactorCommand t c) before after = false
-touches (StateRequest t q) before after = false
-touches (BattleOverride t on) before after = false
-touches (ClearLongTerm t) before after = true
+abbrev pub changesStores : Event → Live → Live → Bool
+changesStores (Measurement t r) before after = changedBelow (before .watch .protections) (after .watch .protections) 8
+changesStores (PowerOn t) before after = true
+changesStores (PowerLoss t) before after = true
+changesStores (ContactorCommand t c) before after = false
+changesStores (StateRequest t q) before after = false
+changesStores (BattleOverride t on) before after = false
+changesStores (ClearLongTerm t) before after = true
 
 abbrev pub judgedBy : ℕ → Live → Event → Judged
-judgedBy zero l e = record { number = 0; live = advanceLive e l; touched = touches e l (advanceLive e l) }
-judgedBy (suc n) l e = record { number = suc n; live = l; touched = false }
+judgedBy zero l e = record { refusal = 0; live = advanceLive e l; changed = changesStores e l (advanceLive e l) }
+judgedBy (suc n) l e = record { refusal = suc n; live = l; changed = false }
 
 unfoldable pub judged : Live → Stores → Event → Judged
 judged l s e = judgedBy (refusal (record { live = l; stores = s }) e) l e
@@ -32,6 +32,6 @@ judged l s e = judgedBy (refusal (record { live = l; stores = s }) e) l e
 -- the two parts, put together
 abbrev pub joined : Record → Event → Judged → Outcome
 joined r e j = record {
-  number = j .number;
-  after = record { live = j .live; stores = cond (j .touched) (advanceStores e (r .live) (j .live) (r .stores)) (r .stores) };
+  refusal = j .refusal;
+  after = record { live = j .live; stores = cond (j .changed) (advanceStores e (r .live) (j .live) (r .stores)) (r .stores) };
 }

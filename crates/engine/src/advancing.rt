@@ -14,9 +14,9 @@ use rules::battery::Live;
 use rules::battery::Tally;
 use rules::calls::Command;
 use rules::calls::Event;
-use rules::reading::Reading;
+use rules::sensors::Reading;
+use rules::session::Previous;
 use rules::states::State;
-use rules::tracking::Previous;
 use rules::units::Charge;
 use rules::units::Milliseconds;
 

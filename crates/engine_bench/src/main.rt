@@ -67,11 +67,11 @@ fn call(slots: [Slot; SLOTS], count: usize, first: Record) -> usize {
         let e = slot.event;
         let j = engine::judge(live, stores, e);
         let after = j.live;
-        if j.touched {
+        if j.changed {
             stores = engine::write_stores(live, after, stores, e);
         }
         live = after;
-        if j.number != 0 {
+        if j.refusal != 0 {
             refused = std::num::wrapping_add_usize(refused, 1);
         }
         i += 1;
@@ -97,11 +97,11 @@ fn read_and_call(input: &[u8], first: Record) -> usize {
         };
         let j = engine::judge(live, stores, e);
         let after = j.live;
-        if j.touched {
+        if j.changed {
             stores = engine::write_stores(live, after, stores, e);
         }
         live = after;
-        if j.number != 0 {
+        if j.refusal != 0 {
             refused = std::num::wrapping_add_usize(refused, 1);
         }
         at = next;

@@ -1,4 +1,4 @@
--- One byte more. Assumes nothing.
+-- One byte more.
 use mathlib.Core.Path.{_≡_, refl}
 use mathlib.Core.Bool.{Bool, _&&_}
 use mathlib.Core.List.{List}

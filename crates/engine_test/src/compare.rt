@@ -2,12 +2,12 @@
 use rules::battery::Live;
 use rules::battery::Record;
 use rules::battery::Tally;
+use rules::session::Previous;
+use rules::session::ProtectionState;
+use rules::session::Span;
+use rules::session::Watch;
 use rules::stores::LongTerm;
 use rules::stores::ShortTerm;
-use rules::tracking::Previous;
-use rules::tracking::ProtectionState;
-use rules::tracking::Span;
-use rules::tracking::Watch;
 
 fn same_span(a: Span, b: Span) -> bool {
     match a {
@@ -119,5 +119,5 @@ fn same_short(a: ShortTerm, b: ShortTerm) -> bool {
 pub fn same(a: Record, b: Record) -> bool {
     let s = a.stores;
     let t = b.stores;
-    same_live(a.live, b.live) & same_long(s.faults, t.faults) & same_short(s.recent, t.recent)
+    same_live(a.live, b.live) & same_long(s.long, t.long) & same_short(s.short, t.short)
 }

@@ -3,14 +3,14 @@ use rules::battery::Control;
 use rules::battery::Live;
 use rules::battery::Record;
 use rules::battery::Tally;
+use rules::session::Previous;
+use rules::session::ProtectionState;
+use rules::session::Span;
+use rules::session::Watch;
 use rules::states::State;
 use rules::stores::LongTerm;
 use rules::stores::ShortTerm;
 use rules::stores::Stores;
-use rules::tracking::Previous;
-use rules::tracking::ProtectionState;
-use rules::tracking::Span;
-use rules::tracking::Watch;
 use rules::units::Charge;
 use rules::units::Milliamperes;
 use rules::units::Milliseconds;
@@ -98,11 +98,11 @@ pub fn previous(t: u32, i: i32) -> Record {
 }
 
 // A number that has no protection leaves the record as it is.
-pub fn span(number: usize, span: Span) -> Record {
+pub fn span(protection: usize, span: Span) -> Record {
     let w = base_watch();
     let mut protections = w.protections;
-    if number < 8 {
-        protections[number] = ProtectionState {
+    if protection < 8 {
+        protections[protection] = ProtectionState {
             span,
             tripped: false,
         };
@@ -119,35 +119,35 @@ fn with_stores(stores: Stores) -> Record {
 pub fn long(count: usize, place: usize, protection: u8) -> Record {
     let r = base();
     let s = r.stores;
-    let f = s.faults;
+    let f = s.long;
     let mut protections = f.protections;
     if place < 64 {
         protections[place] = protection;
     }
-    let faults = LongTerm {
+    let long = LongTerm {
         protections,
         count,
         ..f
     };
-    with_stores(Stores { faults, ..s })
+    with_stores(Stores { long, ..s })
 }
 
 // The same of the short-term store; the entry in that place is a release.
 pub fn short(count: usize, place: usize, protection: u8) -> Record {
     let r = base();
     let s = r.stores;
-    let f = s.recent;
+    let f = s.short;
     let mut protections = f.protections;
     let mut releases = f.releases;
     if place < 16 {
         protections[place] = protection;
         releases[place] = true;
     }
-    let recent = ShortTerm {
+    let short = ShortTerm {
         protections,
         releases,
         count,
         ..f
     };
-    with_stores(Stores { recent, ..s })
+    with_stores(Stores { short, ..s })
 }

@@ -11,7 +11,7 @@ use crate::print;
 use rules::answers::Written;
 use rules::battery::Record;
 use rules::calls::Event;
-use rules::tracking::Span;
+use rules::session::Span;
 use rules::units::Milliseconds;
 use words::read;
 
@@ -80,8 +80,8 @@ fn exports(r: Record) {
 pub fn call(name: &[u8], r: Record, e: Event) -> Record {
     let o = engine::apply(r, e);
     print::text(name);
-    print::number(o.number as u64);
-    if o.number != 0 {
+    print::number(o.refusal as u64);
+    if o.refusal != 0 {
         print_kept(compare::same(r, o.after));
     }
     o.after

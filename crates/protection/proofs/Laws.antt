@@ -1,4 +1,4 @@
--- The table's columns by number, and the bounds that the tests' sums need. Assumes nothing.
+-- The table's columns by number, and the bounds that the tests' sums need.
 use mathlib.Core.Path.{_≡_, refl, sym, ap, _∙_}
 use mathlib.Core.Bool.{Bool, true, false, cond, _&&_}
 use mathlib.Core.List.{List, [], _∷_, map}
@@ -16,11 +16,11 @@ use mir.Facts.{sfits-widen}
 use Rattle.rules.specs.declared.units.DeciCelsius.{DeciCelsius}
 use Rattle.rules.specs.declared.units.Milliamperes.{Milliamperes}
 use Rattle.rules.specs.declared.units.Millivolts.{Millivolts}
-use Rattle.rules.specs.declared.reading.Reading.{Reading}
-use Rattle.rules.specs.declared.reading.Extremes.{Extremes}
+use Rattle.rules.specs.declared.sensors.Reading.{Reading}
+use Rattle.rules.specs.declared.sensors.Extremes.{Extremes}
 use Rattle.rules.specs.declared.units.Milliseconds.{Milliseconds}
 use Rattle.rules.specs.Quantities.{mV, mA, dC, _<mV_, _≤mV_, _<mA_, _≤mA_, _<dC_, _≤dC_, sum, negated, chargeRating, dischargeRating}
-use Rattle.rules.specs.Protections.{Protection, table, protection, overvoltage, permittedAt, permitted, extremes}
+use Rattle.rules.specs.Protections.{Protection, table, rowOf, overvoltage, permittedAt, permitted, extremes}
 use Rattle.protection.specs.declared.Side.{Side}
 use Rattle.protection.specs.Rows.{sidesOf, valuesOf}
 
@@ -31,13 +31,13 @@ any-default [] n d e h = absurd (not-suc-le-zero h)
 any-default (x ∷ xs) zero d e h = refl
 any-default (x ∷ xs) (suc n) d e h = any-default xs n d e (le-of-suc-le-suc h)
 
-module _ (f : Protection → Milliseconds) (battery number : ℕ) where
-  pub in-table : number < 8 → (d : Milliseconds) → getD (map f (table battery)) number d ≡ f (protection battery number)
-  unfolding protection
-  in-table h d = any-default (map f (table battery)) number d (f overvoltage) h ∙ List·getD-map f (table battery) number overvoltage
+module _ (f : Protection → Milliseconds) (battery protection : ℕ) where
+  pub in-table : protection < 8 → (d : Milliseconds) → getD (map f (table battery)) protection d ≡ f (rowOf battery protection)
+  unfolding rowOf
+  in-table h d = any-default (map f (table battery)) protection d (f overvoltage) h ∙ List·getD-map f (table battery) protection overvoltage
 
-  pub past-table : 8 ≤ number → f overvoltage ≡ f (protection battery number)
-  unfolding protection
+  pub past-table : 8 ≤ protection → f overvoltage ≡ f (rowOf battery protection)
+  unfolding rowOf
   past-table h = ap f (sym (List·getD-eq-default (table battery) overvoltage h))
 
 -- ---- the permitted charge current
@@ -102,7 +102,7 @@ valuesBy r e v =
 module _ (battery : ℕ) (r : Reading) (e : Extremes) (e-is : e ≡ extremes r) (v : Millivolts) (v-is : v ≡ mV (e .highest .0 - e .lowest .0)) where
   pub sides-are : (l d : Milliamperes) → l ≡ permitted battery (e .coldest) → d ≡ negated (dischargeRating battery)
       → sidesBy r e l d v ≡ sidesOf battery r
-  unfolding sidesOf protection
+  unfolding sidesOf rowOf
   sides-are l d l-is d-is =
       ap (λ (x : Millivolts). sidesBy r e l d x) v-is
       ∙ ap (λ (x : Milliamperes). sidesBy r e l x (mV (e .highest .0 - e .lowest .0))) d-is
@@ -110,6 +110,6 @@ module _ (battery : ℕ) (r : Reading) (e : Extremes) (e-is : e ≡ extremes r) 
       ∙ ap (λ (x : Extremes). sidesBy r x (permitted battery (x .coldest)) (negated (dischargeRating battery)) (mV (x .highest .0 - x .lowest .0))) e-is
 
   pub values-are : valuesBy r e v ≡ valuesOf battery r
-  unfolding valuesOf protection
+  unfolding valuesOf rowOf
   values-are =
       ap (λ (x : Millivolts). valuesBy r e x) v-is ∙ ap (λ (x : Extremes). valuesBy r x (mV (x .highest .0 - x .lowest .0))) e-is

@@ -13,7 +13,7 @@ use mir.Syntax.{w32}
 use mir.Val.{toZ, ofZ}
 use mir.Facts.{toZ-pos}
 use Rattle.rules.specs.declared.units.Milliamperes.{Milliamperes}
-use Rattle.rules.specs.declared.reading.Reading.{Reading}
+use Rattle.rules.specs.declared.sensors.Reading.{Reading}
 use Rattle.rules.specs.Quantities.{mA, chargeRating}
 use Rattle.rules.specs.Test.{inRange, all, plausible, maskOf, failedMask}
 use Rattle.rules.specs.Protections.{picked, permittedAt}

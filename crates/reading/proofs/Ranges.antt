@@ -1,4 +1,4 @@
--- Every sensor is in its range exactly if the extremes and the current are. Assumes nothing.
+-- Every sensor is in its range exactly if the extremes and the current are.
 use mathlib.Core.Path.{_≡_, refl, sym, subst, ap, _∙_}
 use mathlib.Core.Bool.{Bool, true, false, not, cond, _&&_}
 use mathlib.Core.List.{List, [], _∷_, _++_, map}
@@ -6,7 +6,7 @@ use native.Mathlib.Omega.{arith}
 use lib.Dec.{T, leb→le, le→leb, ltb→lt}
 use lib.IntN.{ℤ, pos, negsuc, negℤ}
 use lib.Signed.{ltZ, leZ, ltZ-no}
-use Rattle.rules.specs.declared.reading.Reading.{Reading}
+use Rattle.rules.specs.declared.sensors.Reading.{Reading}
 use Rattle.rules.specs.Quantities.{mV, dC, _≤mV_, _≤dC_}
 use Rattle.rules.specs.Test.{cellInRange, currentInRange, temperatureInRange, all, plausible}
 use Rattle.rules.specs.Protections.{picked, otherCells, otherTemperatures, extremes}

@@ -2,7 +2,7 @@
 use mathlib.Core.Bool.{Bool, _&&_}
 use lib.IntN.{pos, negℤ}
 use Rattle.rules.specs.declared.units.Milliamperes.{Milliamperes}
-use Rattle.rules.specs.declared.reading.Extremes.{Extremes}
+use Rattle.rules.specs.declared.sensors.Extremes.{Extremes}
 use Rattle.rules.specs.Quantities.{mV, dC, _≤mV_, _≤dC_}
 use Rattle.rules.specs.Test.{currentInRange}
 

@@ -4,7 +4,7 @@ ghost use mathlib.Core.Bool.{not, cond};
 ghost use lib.Dec.{ltb};
 ghost use Rattle.rules.specs.Calls.{timeOf};
 ghost use Rattle.rules.specs.States.{isPowered, requestAllowed, commandCeiling, commandAllowed, overrideAllowed, clearAllowed};
-ghost use Rattle.rules.specs.Refusals.{misplaced, requestBarred, otherBarred, refusal as refusalByTable};
+ghost use Rattle.rules.specs.Refusals.{isWrongPower, isForbiddenRequest, isForbiddenOther, refusal as refusalByTable};
 use rules::battery::Live;
 use rules::calls::Command;
 use rules::calls::Event;
@@ -156,7 +156,7 @@ fn at_clear(s: State) -> u8
 
 // Rows 8 to 10.
 fn by_state(s: State, commands: u32, e: Event) -> u8
-    ensures { λ r. ⌜ r ≡ cond (misplaced s e) 8 (cond (requestBarred s e) 9 (cond (otherBarred s commands e) 10 0)) ⌝ }
+    ensures { λ r. ⌜ r ≡ cond (isWrongPower s e) 8 (cond (isForbiddenRequest s e) 9 (cond (isForbiddenOther s commands e) 10 0)) ⌝ }
 {
     match e {
         Event::Measurement(_, _) => while_powered(s),

@@ -7,5 +7,5 @@ abbrev pub isFull : Why → Bool
 isFull Full = true
 isFull End = false
 isFull Cut = false
-isFull (Refused number) = false
+isFull (Refused refusal) = false
 isFull Spent = false

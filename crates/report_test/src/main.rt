@@ -51,7 +51,7 @@ fn whole(log: &[u8]) {
     let opening = report::opening(log);
     let start = opening.progress;
     if log.len() == 0 {
-        close(start, Why::Refused(opening.number));
+        close(start, Why::Refused(opening.refusal));
         return;
     }
     let part = lines(&log[1..], start);

@@ -1,4 +1,4 @@
--- Any number of items, written one after the other and read one after the other. Assumes nothing.
+-- Any number of items, written one after the other and read one after the other.
 use Prim.Native.Nat.{ℕ, zero, suc, _+_, _-_}
 use mathlib.Core.List.{List, [], _∷_, _++_}
 use mathlib.Core.Path.{_≡_, refl, sym, ap, _∙_}
@@ -53,10 +53,10 @@ module _ (I : Items) where
 
   module _ (W : Writer I) where
     -- an accepted write: its bytes at the buffer's start, and nothing else changed
-    accepted : (number n count : ℕ) (due before after : List ℕ) → bytes n ≡ writtenOr number count → after ≡ bufferAfter number due before
+    accepted : (refusal n count : ℕ) (due before after : List ℕ) → bytes n ≡ writtenOr refusal count → after ≡ bufferAfter refusal due before
         → (n ≡ count) × (after ≡ due ++ drop (length due) before)
     accepted zero n count due before after e f = ((cc), f)
-    accepted (suc number) n count due before after e f = absurd (let z : _≡_ {A = ℕ} 0 1 = cc in omega arith)
+    accepted (suc refusal) n count due before after e f = absurd (let z : _≡_ {A = ℕ} 0 1 = cc in omega arith)
 
     wrote-one : {x : I .Item} {before after : RefT (List ℕ)} {n : ℕ} → W .Allows x before (Bytes n) after
         → (n ≡ length (itemBytes I x)) × (take n (after .now) ≡ itemBytes I x)

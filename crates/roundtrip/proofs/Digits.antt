@@ -1,4 +1,4 @@
--- Digits to the base 256 and the number that they are, over how many they are. Assumes nothing.
+-- Digits to the base 256 and the number that they are, over how many they are.
 use Prim.Native.Nat.{ℕ, zero, suc, _+_, _*_, _/_, _%_, _^_, _<_, _≤_}
 use mathlib.Core.List.{List, [], _∷_, _++_}
 use mathlib.Core.Path.{_≡_, refl, sym, ap, _∙_}

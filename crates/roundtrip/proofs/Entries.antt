@@ -1,4 +1,4 @@
--- The round trips of entries, through the contracts of `read_entry` and `write_entry`. Assumes nothing.
+-- The round trips of entries, through the contracts of `read_entry` and `write_entry`.
 use Prim.Native.Nat.{ℕ, _≤_}
 use mathlib.Core.Bool.{true, true≢false}
 use mathlib.Core.List.{List}

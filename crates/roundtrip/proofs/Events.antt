@@ -1,4 +1,4 @@
--- The round trips of events, through the contracts of `read_event` and `write_event`. Assumes nothing.
+-- The round trips of events, through the contracts of `read_event` and `write_event`.
 use Prim.Native.Nat.{ℕ, _≤_}
 use mathlib.Core.List.{List}
 use mathlib.Core.Path.{_≡_, refl}

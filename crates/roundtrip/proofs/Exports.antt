@@ -1,5 +1,4 @@
 -- What an export wrote reads back as the store's entries and then "end", through the contracts of the exports and of `read_entry`.
--- Assumes nothing.
 use Prim.Native.Nat.{ℕ, zero, suc, _≤_, _<_}
 use mathlib.Core.Bool.{Bool, true, false}
 use mathlib.Core.List.{List, [], _∷_, _++_}
@@ -14,7 +13,7 @@ use mir.Val.{SFits}
 use Rattle.rules.specs.Bytes.{InRange, entryForms}
 use Rattle.rules.specs.Numbers.{bytes, entryKind, entryValues}
 use Rattle.rules.specs.Shown.{firstPlaces, longEntry, longEntries, shortEntry, shortEntries, entryOf}
-use Rattle.rules.specs.Soundness.{NumbersBelow8}
+use Rattle.rules.specs.Soundness.{ProtectionsBelow8}
 use Rattle.rules.specs.declared.battery.Record.{Record}
 use Rattle.rules.specs.declared.stores.Entry.{Entry}
 use Rattle.rules.specs.declared.stores.Entry.the-variants.{Trip, Release}
@@ -30,10 +29,10 @@ use Rattle.roundtrip.specs.Chains.{allBytes, AllInRange, ReadAs}
 
 -- ---- the entries of a store are in range
 
-stored-range : (release : Bool) (t : Milliseconds) (number : ℕ) (value : ℤ) → t .0 < 4_294_967_296 → number ≤ 7 → SFits w32 value
-    → InRange entryForms (entryKind (entryOf release t number value)) (entryValues (entryOf release t number value))
-stored-range true t number value time listed fits = entry-range (Release t number) (time, omega arith) listed
-stored-range false t number value time listed fits = entry-range (Trip t number value) (time, omega arith, fits) listed
+stored-range : (release : Bool) (t : Milliseconds) (protection : ℕ) (value : ℤ) → t .0 < 4_294_967_296 → protection ≤ 7 → SFits w32 value
+    → InRange entryForms (entryKind (entryOf release t protection value)) (entryValues (entryOf release t protection value))
+stored-range true t protection value time listed fits = entry-range (Release t protection) (time, omega arith) listed
+stored-range false t protection value time listed fits = entry-range (Trip t protection value) (time, omega arith, fits) listed
 
 range-append : (xs ys : List Entry) → AllInRange entries xs → AllInRange entries ys → AllInRange entries (xs ++ ys)
 range-append [] ys f g = g
@@ -45,12 +44,12 @@ range-first place zero each = tt
 range-first place (suc n) each =
     range-append (firstPlaces n place) (place n ∷ []) (range-first place n (λ i h. each i (omega (arith, h)))) (each n (omega arith), tt)
 
-long-range : (s : LongTerm) → NumbersBelow8 (s .count) (s .protections) → InMachine (s .times) (s .values) → AllInRange entries (longEntries s)
+long-range : (s : LongTerm) → ProtectionsBelow8 (s .count) (s .protections) → InMachine (s .times) (s .values) → AllInRange entries (longEntries s)
 unfolding longEntries
 long-range s numbers machine =
     range-first (longEntry s) (s .count) (λ i h. stored-range false _ _ _ (machine i .0) (numbers i h) (machine i .1))
 
-short-range : (s : ShortTerm) → NumbersBelow8 (s .count) (s .protections) → InMachine (s .times) (s .values) → AllInRange entries (shortEntries s)
+short-range : (s : ShortTerm) → ProtectionsBelow8 (s .count) (s .protections) → InMachine (s .times) (s .values) → AllInRange entries (shortEntries s)
 unfolding shortEntries
 short-range s numbers machine =
     range-first (shortEntry s) (s .count) (λ i h. stored-range (getD (s .releases) i false) _ _ _ (machine i .0) (numbers i h) (machine i .1))
@@ -70,14 +69,14 @@ module _ (κs : Lfts 1) where
 
   -- Of every record and buffer for which `export_long` answers n: the first n bytes read as the long-term entries in order, then "end" at n.
   pub long-export-reads-back : (r : Record) (buffer left : List ℕ) (n : ℕ) → CodeLong r buffer (bytes n) left
-      → ReadAs entries (reader κs) (take n left) n (longEntries (r .stores .faults))
+      → ReadAs entries (reader κs) (take n left) n (longEntries (r .stores .long))
   long-export-reads-back r buffer left n c =
       let w = long-wrote c in
-      read-as (longEntries (r .stores .faults)) buffer left n (long-range (r .stores .faults) (w .sound .longNumbers) (w .machine)) (w .count) (w .contents)
+      read-as (longEntries (r .stores .long)) buffer left n (long-range (r .stores .long) (w .sound .longProtections) (w .machine)) (w .count) (w .contents)
 
   -- The same of `export_short` and the short-term entries.
   pub short-export-reads-back : (r : Record) (buffer left : List ℕ) (n : ℕ) → CodeShort r buffer (bytes n) left
-      → ReadAs entries (reader κs) (take n left) n (shortEntries (r .stores .recent))
+      → ReadAs entries (reader κs) (take n left) n (shortEntries (r .stores .short))
   short-export-reads-back r buffer left n c =
       let w = short-wrote c in
-      read-as (shortEntries (r .stores .recent)) buffer left n (short-range (r .stores .recent) (w .sound .shortNumbers) (w .machine)) (w .count) (w .contents)
+      read-as (shortEntries (r .stores .short)) buffer left n (short-range (r .stores .short) (w .sound .shortProtections) (w .machine)) (w .count) (w .contents)

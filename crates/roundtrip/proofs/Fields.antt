@@ -1,4 +1,4 @@
--- A field's bytes and the value that they are, then the bytes and values of several fields. Assumes nothing.
+-- A field's bytes and the value that they are, then the bytes and values of several fields.
 use Prim.Native.Nat.{ℕ, _+_, _^_, _≤_}
 use mathlib.Core.Bool.{true, and-eq-true-iff}
 use mathlib.Core.List.{List, [], _∷_, _++_, append-assoc}

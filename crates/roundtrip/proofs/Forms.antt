@@ -1,4 +1,4 @@
--- A kind with its values: written and read, read and written again, by any list of forms. Assumes nothing.
+-- A kind with its values: written and read, read and written again, by any list of forms.
 use Prim.Native.Nat.{ℕ, suc, _+_, _-_}
 use mathlib.Core.List.{List, [], _∷_, _++_, append-nil}
 use mathlib.Core.Path.{_≡_, sym, ap, ap₂, _∙_}

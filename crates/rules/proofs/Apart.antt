@@ -10,9 +10,9 @@ use lib.IntN.{ℤ, pos, natAbs}
 use lib.Signed.{ltZ, leZ, ltZ-yes, leZ-yes, <ℤ-≤ℤ-trans, clashℤ, ≤ℤ-refl}
 use lib.ListN.{getD, List·getD-map}
 use mir.Facts.{and-yes}
-use Rattle.rules.specs.declared.reading.Reading.{Reading}
+use Rattle.rules.specs.declared.sensors.Reading.{Reading}
 use Rattle.rules.specs.Quantities.{mA, dC, _<mA_, _≤mA_, _<dC_, negated, chargeRating, dischargeRating}
-use Rattle.rules.specs.Protections.{Protection, overvoltage, undervoltage, overtemperature, coldCharge, chargeOvercurrent, shortCircuit, dischargeOvercurrent, imbalance, hottest, coldest, permittedAt, permitted, table, protection}
+use Rattle.rules.specs.Protections.{Protection, overvoltage, undervoltage, overtemperature, coldCharge, chargeOvercurrent, shortCircuit, dischargeOvercurrent, imbalance, hottest, coldest, permittedAt, permitted, table, rowOf}
 use Rattle.rules.proofs.Each.{Each, none, _and_, at-index}
 use Rattle.rules.proofs.Mask.{bit-of}
 
@@ -25,11 +25,11 @@ exchanged true = refl
 exchanged false = refl
 
 -- `maskOf` has a 1 where a test fails, here that of not being liftable. From 8 on there is no protection, and the bit is 0.
-pub liftable-bit : (battery number : ℕ) → 0xCA / 2 ^ number % 2 ≡ cond (protection battery number .liftable) 1 0
-unfolding protection
-liftable-bit battery number =
-    let same : getD (map notLiftable (table battery)) number true ≡ notLiftable (protection battery number) = List·getD-map notLiftable (table battery) number overvoltage in
-    bit-of (map notLiftable (table battery)) number ∙ rw same (exchanged (protection battery number .liftable))
+pub liftable-bit : (battery protection : ℕ) → 0xCA / 2 ^ protection % 2 ≡ cond (rowOf battery protection .liftable) 1 0
+unfolding rowOf
+liftable-bit battery protection =
+    let same : getD (map notLiftable (table battery)) protection true ≡ notLiftable (rowOf battery protection) = List·getD-map notLiftable (table battery) protection overvoltage in
+    bit-of (map notLiftable (table battery)) protection ∙ rw same (exchanged (rowOf battery protection .liftable))
 
 -- ---- a signed figure against two limits: beyond is past the one, and within stops at or short of the other
 above : (beyond within figure : ℤ) → T (leZ within beyond) → T (ltZ beyond figure) → T (leZ figure within) → ⊥
@@ -91,6 +91,6 @@ rows battery =
     and imbalance-apart
     and none
 
-pub apart : (battery number : ℕ) → number < 8 → (r : Reading) → T (protection battery number .beyond r) → T (protection battery number .within r) → ⊥
-unfolding protection
-apart battery number h = at-index (rows battery) number h overvoltage
+pub apart : (battery protection : ℕ) → protection < 8 → (r : Reading) → T (rowOf battery protection .beyond r) → T (rowOf battery protection .within r) → ⊥
+unfolding rowOf
+apart battery protection h = at-index (rows battery) protection h overvoltage

@@ -10,7 +10,7 @@ use lib.Dec.{T, leb, ltb, leb→le, nltb→le, not-T, T-not}
 use lib.IntN.{ℤ, pos, negℤ}
 use lib.Signed.{leZ, ≤ℤ-refl}
 use mir.Facts.{and-yes}
-use Rattle.rules.specs.declared.reading.Reading.{Reading}
+use Rattle.rules.specs.declared.sensors.Reading.{Reading}
 use Rattle.rules.specs.Quantities.{mV, mA, dC}
 use Rattle.rules.specs.Test.{cellInRange, currentInRange, temperatureInRange, inRange, plausible}
 use Rattle.rules.specs.Protections.{otherCells, otherTemperatures, highest}

@@ -1,4 +1,4 @@
--- The test `isClosed` decides *closed*. Assumes nothing.
+-- The test `isClosed` decides *closed*.
 use mathlib.Core.Path.{_≡_, refl, sym, subst}
 use mathlib.Core.Logic.{_↔_, _⊎_, inl, inr}
 use mathlib.Core.Bool.{Bool, true, false, not, _&&_, _||_}
@@ -12,7 +12,7 @@ use Rattle.rules.specs.declared.states.State.{State}
 use Rattle.rules.specs.declared.states.State.the-variants.{Unpowered, Dormant, Operational, Maintenance}
 use Rattle.rules.specs.declared.calls.Command.{Command}
 use Rattle.rules.specs.declared.calls.Command.the-variants.{Automated, Open, ForceClosed}
-use Rattle.rules.specs.Protections.{protection}
+use Rattle.rules.specs.Protections.{rowOf}
 use Rattle.rules.specs.Trips.{Measured}
 use Rattle.rules.specs.Ledger.{Ledger, testOf, TrippedOn, isTrippedOn}
 use Rattle.rules.specs.Contactor.{StateAndCommand, AllLiftable, NoneTripped, Closed, stateAndCommand, eachBelow, isClosed}
@@ -39,15 +39,15 @@ is-on : (b : Bool) → T b ↔ (b ≡ true)
 is-on true = (λ h. refl, λ e. tt)
 is-on false = (λ h. absurd h, λ e. subst T (sym e) tt)
 
-each-below : (test : ℕ → Bool) (n : ℕ) → T (eachBelow test n) ↔ ((number : ℕ) → number < n → T (test number))
-each-below test zero = (λ h number k. absurd (not-suc-le-zero k), λ f. tt)
+each-below : (test : ℕ → Bool) (n : ℕ) → T (eachBelow test n) ↔ ((protection : ℕ) → protection < n → T (test protection))
+each-below test zero = (λ h protection k. absurd (not-suc-le-zero k), λ f. tt)
 each-below test (suc n) =
     let pair = both (eachBelow test n) (test n) (each-below test n) (λ h. h, λ h. h) in
-    (λ h number k. at (pair .0 h .0) (pair .0 h .1) number k (ltb number n) refl, λ f. pair .1 (λ number k. f number (omega (arith, k)), f n (omega arith)))
+    (λ h protection k. at (pair .0 h .0) (pair .0 h .1) protection k (ltb protection n) refl, λ f. pair .1 (λ protection k. f protection (omega (arith, k)), f n (omega arith)))
   where
-    at : ((number : ℕ) → number < n → T (test number)) → T (test n) → (number : ℕ) → number < suc n → (b : Bool) → ltb number n ≡ b → T (test number)
-    at below top number k true e = below number (ltb-true number n e)
-    at below top number k false e = let is : number ≡ n = omega (arith, k, ltb-false number n e) in rw is top
+    at : ((protection : ℕ) → protection < n → T (test protection)) → T (test n) → (protection : ℕ) → protection < suc n → (b : Bool) → ltb protection n ≡ b → T (test protection)
+    at below top protection k true e = below protection (ltb-true protection n e)
+    at below top protection k false e = let is : protection ≡ n = omega (arith, k, ltb-false protection n e) in rw is top
 
 -- ---- the three conditions
 
@@ -72,21 +72,21 @@ settings-are l = (to (l .state) refl (l .command) refl, from)
     from (inr (e, f)) = rw (e, f) tt
 
 module _ (battery : ℕ) (l : Ledger) where
-  tripped-is : (number : ℕ) → T (isTrippedOn battery l number) ↔ TrippedOn battery l number
-  tripped-is number = is-tripped (protection battery number) (l .measured)
+  tripped-is : (protection : ℕ) → T (isTrippedOn battery l protection) ↔ TrippedOn battery l protection
+  tripped-is protection = is-tripped (rowOf battery protection) (l .measured)
 
-  liftable-is : T (eachBelow (λ number. not (isTrippedOn battery l number) || protection battery number .liftable) 8) ↔ AllLiftable battery l
+  liftable-is : T (eachBelow (λ protection. not (isTrippedOn battery l protection) || rowOf battery protection .liftable) 8) ↔ AllLiftable battery l
   liftable-is =
-      let each = each-below (λ number. not (isTrippedOn battery l number) || protection battery number .liftable) 8 in (
-        λ h number k. unless (isTrippedOn battery l number) (protection battery number .liftable) (tripped-is number) .0 (each .0 h number k),
-        λ f. each .1 (λ number k. unless (isTrippedOn battery l number) (protection battery number .liftable) (tripped-is number) .1 (f number k)),
+      let each = each-below (λ protection. not (isTrippedOn battery l protection) || rowOf battery protection .liftable) 8 in (
+        λ h protection k. unless (isTrippedOn battery l protection) (rowOf battery protection .liftable) (tripped-is protection) .0 (each .0 h protection k),
+        λ f. each .1 (λ protection k. unless (isTrippedOn battery l protection) (rowOf battery protection .liftable) (tripped-is protection) .1 (f protection k)),
       )
 
-  none-is : T (eachBelow (λ number. not (isTrippedOn battery l number)) 8) ↔ NoneTripped battery l
+  none-is : T (eachBelow (λ protection. not (isTrippedOn battery l protection)) 8) ↔ NoneTripped battery l
   none-is =
-      let each = each-below (λ number. not (isTrippedOn battery l number)) 8 in (
-        λ h number k. not-is (isTrippedOn battery l number) (tripped-is number) .0 (each .0 h number k),
-        λ f. each .1 (λ number k. not-is (isTrippedOn battery l number) (tripped-is number) .1 (f number k)),
+      let each = each-below (λ protection. not (isTrippedOn battery l protection)) 8 in (
+        λ h protection k. not-is (isTrippedOn battery l protection) (tripped-is protection) .0 (each .0 h protection k),
+        λ f. each .1 (λ protection k. not-is (isTrippedOn battery l protection) (tripped-is protection) .1 (f protection k)),
       )
 
   -- the parts of the test, by name
@@ -97,10 +97,10 @@ module _ (battery : ℕ) (l : Ledger) where
   settled = stateAndCommand (l .state) (l .command)
 
   abbrev liftable : Bool
-  liftable = eachBelow (λ number. not (isTrippedOn battery l number) || protection battery number .liftable) 8
+  liftable = eachBelow (λ protection. not (isTrippedOn battery l protection) || rowOf battery protection .liftable) 8
 
   abbrev clear : Bool
-  clear = eachBelow (λ number. not (isTrippedOn battery l number)) 8
+  clear = eachBelow (λ protection. not (isTrippedOn battery l protection)) 8
 
   pub is-closed : T (isClosed battery l) ↔ Closed battery l
   unfolding isClosed

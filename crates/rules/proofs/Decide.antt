@@ -7,7 +7,7 @@ use Prim.Native.Nat.{ℕ, zero, suc, _≤_}
 use native.Mathlib.Nat.{not-suc-le-zero}
 use lib.Dec.{T, leb→le, le→leb}
 use Rattle.rules.specs.declared.units.Milliseconds.{Milliseconds}
-use Rattle.rules.specs.declared.reading.Reading.{Reading}
+use Rattle.rules.specs.declared.sensors.Reading.{Reading}
 use Rattle.rules.specs.Quantities.{_≤ms_, elapsed}
 use Rattle.rules.specs.Protections.{Protection}
 use Rattle.rules.specs.Trips.{Measured, back, passes, Span, Tripped, reaches, endsNow, isTripped}

@@ -1,4 +1,4 @@
--- A number's decimal digits: the rule without its bound on their number, and how many there are. Assumes nothing.
+-- A number's decimal digits: the rule without its bound on their number, and how many there are.
 use mathlib.Core.Path.{_≡_, refl, ap}
 use mathlib.Core.Bool.{Bool, true, false, cond}
 use mathlib.Core.List.{List, [], _∷_, _++_}

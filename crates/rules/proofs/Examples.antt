@@ -11,10 +11,10 @@ use lib.IntN.{ℤ, pos, natAbs}
 use lib.Signed.{leZ, ltZ, leZ-yes, ltZ-yes, ltZ-no, <ℤ-≤ℤ-trans, clashℤ}
 use lib.ListN.{length, getD}
 use mir.Facts.{and-yes, or-yes}
-use Rattle.rules.specs.declared.reading.Reading.{Reading}
+use Rattle.rules.specs.declared.sensors.Reading.{Reading}
 use Rattle.rules.specs.Quantities.{mA, ms, dC, mAms, negated, dischargeRating, missionTime}
 use Rattle.rules.specs.Test.{plausible, all}
-use Rattle.rules.specs.Protections.{permitted, extremes, overvoltage, protection}
+use Rattle.rules.specs.Protections.{permitted, extremes, overvoltage, rowOf}
 use Rattle.rules.specs.Trips.{Measured, time, isTripped}
 use Rattle.rules.specs.Ledger.{ledger, accepted, TrippedOn}
 use Rattle.rules.specs.Accounts.{charged}
@@ -91,15 +91,15 @@ by-current : (limit floor : ℤ) (r q : Reading) → T (leZ (q .current .0) (r .
 by-current limit floor r q down = (still-below (r .current .0) (q .current .0) limit down, still-from (r .current .0) (q .current .0) floor down)
 
 abbrev followed : ℕ → Bool
-followed number = eqb number 0 || (eqb number 5 || eqb number 6)
+followed protection = eqb protection 0 || (eqb protection 5 || eqb protection 6)
 
-follows : (battery number : ℕ) → T (followed number) → Follows (protection battery number)
-unfolding protection
-follows battery number h = elim (or-yes (eqb number 0) (eqb number 5 || eqb number 6) h) [
-  | inl is ↦ subst (λ (n : ℕ). Follows (protection battery n)) (sym (eqb→eq number 0 is)) overvoltage-follows
-  | inr rest ↦ elim (or-yes (eqb number 5) (eqb number 6) rest) [
-    | inl is ↦ subst (λ (n : ℕ). Follows (protection battery n)) (sym (eqb→eq number 5 is)) (λ r q up. by-current (negated (mA (pos 1_100_000)) .0) (negated (dischargeRating battery) .0) r q)
-    | inr is ↦ subst (λ (n : ℕ). Follows (protection battery n)) (sym (eqb→eq number 6 is)) (λ r q up. by-current (negated (dischargeRating battery) .0) (negated (dischargeRating battery) .0) r q)
+follows : (battery protection : ℕ) → T (followed protection) → Follows (rowOf battery protection)
+unfolding rowOf
+follows battery protection h = elim (or-yes (eqb protection 0) (eqb protection 5 || eqb protection 6) h) [
+  | inl is ↦ subst (λ (n : ℕ). Follows (rowOf battery n)) (sym (eqb→eq protection 0 is)) overvoltage-follows
+  | inr rest ↦ elim (or-yes (eqb protection 5) (eqb protection 6) rest) [
+    | inl is ↦ subst (λ (n : ℕ). Follows (rowOf battery n)) (sym (eqb→eq protection 5 is)) (λ r q up. by-current (negated (mA (pos 1_100_000)) .0) (negated (dischargeRating battery) .0) r q)
+    | inr is ↦ subst (λ (n : ℕ). Follows (rowOf battery n)) (sym (eqb→eq protection 6 is)) (λ r q up. by-current (negated (dischargeRating battery) .0) (negated (dischargeRating battery) .0) r q)
   ]
 ]
 
@@ -113,14 +113,14 @@ comes clear trips = not trips
 comes tripped trips = trips
 
 abbrev leavesAtEnd : List Frame → ℕ → Outcome → ℕ → Bool
-leavesAtEnd frames number outcome battery = comes outcome (isTripped (protection battery number) (reverseAux (map (modelled (end outcome)) frames) []))
+leavesAtEnd frames protection outcome battery = comes outcome (isTripped (rowOf battery protection) (reverseAux (map (modelled (end outcome)) frames) []))
 
 abbrev usable : List Frame → Bool
 usable frames = inOrder 0 frames && all (map (λ f. atEnds (f .reads)) frames)
 
 abbrev decided : Row → Bool
 decided (permits battery coldest current) = eqb (natAbs (permitted battery (dC coldest) .0)) current
-decided (leaves types frames number outcome) = usable frames && (followed number && all (map (leavesAtEnd frames number outcome) types))
+decided (leaves types frames protection outcome) = usable frames && (followed protection && all (map (leavesAtEnd frames protection outcome) types))
 decided (charges frames amount) =
     usable frames && (eqb (total [] (map (modelled mildest) frames)) amount && eqb (total [] (map (modelled severest) frames)) amount)
 
@@ -132,17 +132,17 @@ module _ (frames : List Frame) (u : T (usable frames)) (start : ℕ) (taken : Li
   ends : Ends frames
   ends = each-of (λ f. atEnds (f .reads)) frames (and-yes (inOrder 0 frames) (all (map (λ f. atEnds (f .reads)) frames)) u .1)
 
-  leaves-as : (battery number : ℕ) (outcome : Outcome) → T (followed number) → T (leavesAtEnd frames number outcome battery)
-      → Comes outcome (TrippedOn battery (ledger (session taken)) number)
-  leaves-as battery number clear f h = λ t.
-      let p = protection battery number in
+  leaves-as : (battery protection : ℕ) (outcome : Outcome) → T (followed protection) → T (leavesAtEnd frames protection outcome battery)
+      → Comes outcome (TrippedOn battery (ledger (session taken)) protection)
+  leaves-as battery protection clear f h = λ t.
+      let p = rowOf battery protection in
       let tripped' = is-tripped p (reverseAux taken []) .1 (rw (measured-in taken in-time) at t) in
       T-not (isTripped p (reverseAux (map (modelled severest) frames) [])) h
-      (tripped-milder p (follows battery number f) 0 start (reversed (below start ends meets) Forall₂·nil) tripped')
-  leaves-as battery number tripped f h =
-      let p = protection battery number in
+      (tripped-milder p (follows battery protection f) 0 start (reversed (below start ends meets) Forall₂·nil) tripped')
+  leaves-as battery protection tripped f h =
+      let p = rowOf battery protection in
       rw (measured-in taken in-time)
-      (is-tripped p (reverseAux taken []) .0 (tripped-milder p (follows battery number f) start 0 (reversed (above start ends meets) Forall₂·nil) h))
+      (is-tripped p (reverseAux taken []) .0 (tripped-milder p (follows battery protection f) start 0 (reversed (above start ends meets) Forall₂·nil) h))
 
   charges-as : (amount : ℕ) → total [] (map (modelled mildest) frames) ≡ amount → total [] (map (modelled severest) frames) ≡ amount
       → charged (accepted (session taken)) ≡ mAms amount
@@ -152,10 +152,10 @@ module _ (frames : List Frame) (u : T (usable frames)) (start : ℕ) (taken : Li
 holds : (row : Row) → T (decided row) → Holds row
 unfolding permitted
 holds (permits battery coldest current) h = ap (λ (n : ℕ). mA (pos n)) (eqb→eq (natAbs (permitted battery (dC coldest) .0)) current h)
-holds (leaves types frames number outcome) h = λ battery m start taken meets.
-    let b = and-yes (usable frames) (followed number && all (map (leavesAtEnd frames number outcome) types)) h in
-    let c = and-yes (followed number) (all (map (leavesAtEnd frames number outcome) types)) (b .1) in
-    leaves-as frames (b .0) start taken meets battery number outcome (c .0) (of-member (each-of (leavesAtEnd frames number outcome) types (c .1)) m)
+holds (leaves types frames protection outcome) h = λ battery m start taken meets.
+    let b = and-yes (usable frames) (followed protection && all (map (leavesAtEnd frames protection outcome) types)) h in
+    let c = and-yes (followed protection) (all (map (leavesAtEnd frames protection outcome) types)) (b .1) in
+    leaves-as frames (b .0) start taken meets battery protection outcome (c .0) (of-member (each-of (leavesAtEnd frames protection outcome) types (c .1)) m)
 holds (charges frames amount) h = λ start taken meets.
     let most = total [] (map (modelled mildest) frames) in
     let least = total [] (map (modelled severest) frames) in
@@ -164,13 +164,13 @@ holds (charges frames amount) h = λ start taken meets.
     charges-as frames (b .0) start taken meets amount (eqb→eq most amount (c .0)) (eqb→eq least amount (c .1))
 
 pub examples : (i : ℕ) → i < length rows → (d : Row) → Holds (getD rows i d)
-unfolding rows plausible extremes permitted protection
+unfolding rows plausible extremes permitted rowOf
 examples i h d = holds (getD rows i d) (at-index (each-of decided rows tt) i h d)
 
 -- ---- and no row is empty: a session meets its frames
 abbrev framesOf : Row → List Frame
 framesOf (permits battery coldest current) = []
-framesOf (leaves types frames number outcome) = frames
+framesOf (leaves types frames protection outcome) = frames
 framesOf (charges frames amount) = frames
 
 abbrev meetable : Frame → Bool

@@ -6,7 +6,7 @@ use native.Mathlib.Omega.{arith}
 use lib.Dec.{T, not-T, ltb→lt}
 use lib.IntN.{ℤ, pos, negsuc}
 use lib.Signed.{ltZ, ltZ-yes, ltZ-no, <ℤ-≤ℤ-trans}
-use Rattle.rules.specs.declared.reading.Reading.{Reading}
+use Rattle.rules.specs.declared.sensors.Reading.{Reading}
 use Rattle.rules.specs.Quantities.{_<mV_, _<dC_}
 use Rattle.rules.specs.Protections.{picked, otherCells, otherTemperatures, extremes, highest, lowest, hottest, coldest}
 

@@ -109,12 +109,12 @@ event-injective a b k v = injective {B = ℕ × List ℤ} (λ e. (eventKind e, e
 abbrev entryOf : ℕ → List ℤ → Entry
 entryOf kind values =
     let t = ms (unsigned values 0) in
-    let number = unsigned values 1 in
-    getD (Trip t number (signed values 2) ∷ Release t number ∷ []) (kind - 0x21) (Release t number)
+    let refusal = unsigned values 1 in
+    getD (Trip t refusal (signed values 2) ∷ Release t refusal ∷ []) (kind - 0x21) (Release t refusal)
 
 entry-of : (e : Entry) → entryOf (entryKind e) (entryValues e) ≡ e
-entry-of (Trip t number value) = refl
-entry-of (Release t number) = refl
+entry-of (Trip t refusal value) = refl
+entry-of (Release t refusal) = refl
 
 pub entry-injective : (a b : Entry) → entryKind a ≡ entryKind b → entryValues a ≡ entryValues b → a ≡ b
 entry-injective a b k v = injective {B = ℕ × List ℤ} (λ e. (entryKind e, entryValues e)) (λ p. entryOf (p .0) (p .1)) entry-of a b (λ i. (k i, v i))
@@ -124,12 +124,12 @@ entry-injective a b k v = injective {B = ℕ × List ℤ} (λ e. (entryKind e, e
 abbrev readEventOf : ReadAnswer → ReadEvent
 readEventOf (found kind values next) = FoundEvent (eventOf kind values) next
 readEventOf end = NoEvent
-readEventOf (ReadAnswer.refused number position) = RefusedEvent number position
+readEventOf (ReadAnswer.refused refusal position) = RefusedEvent refusal position
 
 read-event-of : (a : ReadEvent) → readEventOf (answerOfReadEvent a) ≡ a
 read-event-of (FoundEvent e next) = ap (λ (x : Event). FoundEvent x next) (event-of e)
 read-event-of NoEvent = refl
-read-event-of (RefusedEvent number position) = refl
+read-event-of (RefusedEvent refusal position) = refl
 
 pub read-event-injective : (a b : ReadEvent) → answerOfReadEvent a ≡ answerOfReadEvent b → a ≡ b
 read-event-injective = injective answerOfReadEvent readEventOf read-event-of
@@ -137,23 +137,23 @@ read-event-injective = injective answerOfReadEvent readEventOf read-event-of
 abbrev readEntryOf : ReadAnswer → ReadEntry
 readEntryOf (found kind values next) = FoundEntry (entryOf kind values) next
 readEntryOf end = NoEntry
-readEntryOf (ReadAnswer.refused number position) = RefusedEntry number position
+readEntryOf (ReadAnswer.refused refusal position) = RefusedEntry refusal position
 
 read-entry-of : (a : ReadEntry) → readEntryOf (answerOfReadEntry a) ≡ a
 read-entry-of (FoundEntry e next) = ap (λ (x : Entry). FoundEntry x next) (entry-of e)
 read-entry-of NoEntry = refl
-read-entry-of (RefusedEntry number position) = refl
+read-entry-of (RefusedEntry refusal position) = refl
 
 pub read-entry-injective : (a b : ReadEntry) → answerOfReadEntry a ≡ answerOfReadEntry b → a ≡ b
 read-entry-injective = injective answerOfReadEntry readEntryOf read-entry-of
 
 abbrev writtenOf : WriteAnswer → Written
 writtenOf (bytes count) = Bytes count
-writtenOf (notWritten number) = Refused number
+writtenOf (notWritten refusal) = Refused refusal
 
 written-of : (a : Written) → writtenOf (answerOfWrite a) ≡ a
 written-of (Bytes count) = refl
-written-of (Refused number) = refl
+written-of (Refused refusal) = refl
 
 pub write-injective : (a b : Written) → answerOfWrite a ≡ answerOfWrite b → a ≡ b
 write-injective = injective answerOfWrite writtenOf written-of

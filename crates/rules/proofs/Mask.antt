@@ -11,7 +11,7 @@ use lib.Dec.{T}
 use lib.IntN.{pos}
 use lib.ListN.{length, getD, List·getD-append, List·getD-map}
 use lib.Seq.{getD-append-add}
-use Rattle.rules.specs.declared.reading.Reading.{Reading}
+use Rattle.rules.specs.declared.sensors.Reading.{Reading}
 use Rattle.rules.specs.Quantities.{mV, dC}
 use Rattle.rules.specs.Test.{cellInRange, currentInRange, temperatureInRange, inRange, maskOf, failedMask}
 use Rattle.rules.specs.Protections.{otherCells, otherTemperatures}

@@ -11,12 +11,12 @@ use lib.Dec.{T, leb→le}
 use lib.IntN.{ℤ, pos, negsuc}
 use lib.Signed.{leZ}
 use Rattle.rules.specs.declared.units.Milliseconds.{Milliseconds}
-use Rattle.rules.specs.declared.reading.Reading.{Reading}
+use Rattle.rules.specs.declared.sensors.Reading.{Reading}
 use Rattle.rules.specs.Quantities.{_≤ms_, elapsed}
 use Rattle.rules.specs.Test.{plausible}
 use Rattle.rules.specs.Protections.{Protection, highest}
 use Rattle.rules.specs.Trips.{Measured, time, passes, reaches, endsNow, isTripped}
-use Rattle.rules.specs.Accounts.{positivePart, positiveTimes, joins}
+use Rattle.rules.specs.Accounts.{positivePart, positiveTimes, increment}
 use Rattle.rules.proofs.Spans.{kept-or-new}
 use Rattle.rules.proofs.Decide.{and-or}
 use Rattle.rules.proofs.Sessions.{total}
@@ -109,7 +109,7 @@ cond-le false b f = zero-le
 
 module _ (start begin : ℕ) where
   joins-milder : {before past : List Measured} → Forall₂ (Milder start begin) before past → (m n : Measured) → Milder start begin m n
-      → joins positiveTimes past n .0 ≤ joins positiveTimes before m .0
+      → increment positiveTimes past n .0 ≤ increment positiveTimes before m .0
   joins-milder Forall₂·nil m n x = zero-le
   joins-milder (Forall₂·cons {a = e} {b = f} y ys) m n x =
       let same : time n - time f ≡ time m - time e = omega (arith, x .times, y .times) in

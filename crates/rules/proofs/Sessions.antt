@@ -11,7 +11,7 @@ use Rattle.rules.specs.States.{isPowered}
 use Rattle.rules.specs.Refusals.{refusal}
 use Rattle.rules.specs.Trips.{Measured, time}
 use Rattle.rules.specs.Ledger.{Ledger, Accepted, atFirst, refused, accept, ifAccepted, entered, ledgerFrom, acceptedFrom, ledger, accepted}
-use Rattle.rules.specs.Accounts.{positiveTimes, joins, charged}
+use Rattle.rules.specs.Accounts.{positiveTimes, increment, charged}
 use Rattle.rules.specs.Examples.{measurements, session}
 
 abbrev pub Timely : ℕ → List Measured → Type 0
@@ -21,7 +21,7 @@ Timely last (m ∷ later) = (last ≤ time m) × (time m ≤ missionTime .0) × 
 -- what each measurement charges with the one before it, the first of them with those before
 abbrev pub total : List Measured → List Measured → ℕ
 total past [] = 0
-total past (m ∷ later) = joins positiveTimes past m .0 + total (m ∷ past) later
+total past (m ∷ later) = increment positiveTimes past m .0 + total (m ∷ past) later
 
 module _ (l : Ledger) (powered : isPowered (l .state) ≡ true) where
   accepts : (m : Measured) → l .last .0 ≤ time m → time m ≤ missionTime .0 → refused l (Measurement (m .at) (m .reading)) ≡ 0
@@ -44,7 +44,7 @@ charged-from l powered past (m ∷ later) t =
     ap (λ (n : ℕ). charged (acceptedFrom (ifAccepted n (accept l e) l) (ifAccepted n (entered l e ∷ past) past) (measurements later)) .0)
     (accepts l powered m (t .0) (t .1))
     ∙ charged-from (accept l e) powered (entered l e ∷ past) later (t .2)
-    ∙ add-assoc (charged past .0) (joins positiveTimes (l .measured) m .0) (total (m ∷ l .measured) later)
+    ∙ add-assoc (charged past .0) (increment positiveTimes (l .measured) m .0) (total (m ∷ l .measured) later)
 
 -- ---- from the power on
 module _ (taken : List Measured) (timely : Timely 0 taken) where

@@ -6,7 +6,7 @@ use Prim.Native.Nat.{ℕ, zero, suc, _≤_, _<_, zero-le, suc-le-suc}
 use native.Mathlib.Nat.{le-of-suc-le-suc, not-suc-le-zero}
 use lib.Dec.{T}
 use Rattle.rules.specs.declared.units.Milliseconds.{Milliseconds}
-use Rattle.rules.specs.declared.reading.Reading.{Reading}
+use Rattle.rules.specs.declared.sensors.Reading.{Reading}
 use Rattle.rules.specs.Protections.{Protection}
 use Rattle.rules.specs.Trips.{Measured, back, passes, Span, lengthOf, Ended, Tripped}
 

@@ -1,6 +1,6 @@
 -- What the claims rule out. Of every engine that meets them, on lists and records so small that what is claimed computes: what it shows
 -- after each row of specs/Worthless, what it gives for a type number, what a pair of lists alike but for override leaves, and what a call
--- does to an unsound record. Assumes nothing.
+-- does to an unsound record.
 use mathlib.Core.Path.{_≡_, refl, sym, subst, _∙_}
 use mathlib.Core.Logic.{_⊎_, _≢_, inl, inr}
 use mathlib.Core.Bool.{true, false, not, true≢false}
@@ -19,7 +19,7 @@ use Rattle.rules.specs.Quantities.{ms, isType}
 use Rattle.rules.specs.Numbers.{stateNumber, contactorNumber}
 use Rattle.rules.specs.Refusals.{refusal}
 use Rattle.rules.specs.Test.{plausible, failedMask, failedCount}
-use Rattle.rules.specs.Protections.{extremes, permitted, protection}
+use Rattle.rules.specs.Protections.{extremes, permitted, rowOf}
 use Rattle.rules.specs.Ledger.{ledger, TrippedOn, isTrippedOn}
 use Rattle.rules.specs.Contactor.{Closed, InForce, AllLiftable, NoneTripped, isClosed}
 use Rattle.rules.specs.Alike.{Alike, none, same, switched}
@@ -32,12 +32,12 @@ use Rattle.rules.proofs.Closing.{is-closed}
 
 -- ---- tests that compute, where the rules have propositions
 
-tripped-on : (battery number : ℕ) (calls : List Event) → T (isTrippedOn battery (ledger calls) number) → TrippedOn battery (ledger calls) number
-tripped-on battery number calls h = is-tripped (protection battery number) (ledger calls .measured) .0 h
+tripped-on : (battery protection : ℕ) (calls : List Event) → T (isTrippedOn battery (ledger calls) protection) → TrippedOn battery (ledger calls) protection
+tripped-on battery protection calls h = is-tripped (rowOf battery protection) (ledger calls .measured) .0 h
 
-not-tripped-on : (battery number : ℕ) (calls : List Event) → T (not (isTrippedOn battery (ledger calls) number)) → ¬ TrippedOn battery (ledger calls) number
-not-tripped-on battery number calls h t =
-    T-not (isTrippedOn battery (ledger calls) number) h (is-tripped (protection battery number) (ledger calls .measured) .1 t)
+not-tripped-on : (battery protection : ℕ) (calls : List Event) → T (not (isTrippedOn battery (ledger calls) protection)) → ¬ TrippedOn battery (ledger calls) protection
+not-tripped-on battery protection calls h t =
+    T-not (isTrippedOn battery (ledger calls) protection) h (is-tripped (rowOf battery protection) (ledger calls .measured) .1 t)
 
 closed-on : (battery : ℕ) (calls : List Event) → T (isClosed battery (ledger calls)) → Closed battery (ledger calls)
 closed-on battery calls h = is-closed battery (ledger calls) .0 h
@@ -56,7 +56,7 @@ Owes r = (answers : List ℕ) (after : Record) (contactor : Contactor) → After
     → Each (Seen answers after contactor) (r .shows)
 
 each-row : Each Owes rows
-unfolding rows refusal plausible failedMask failedCount ones extremes permitted protection isClosed
+unfolding rows refusal plausible failedMask failedCount ones extremes permitted rowOf isClosed
 each-row =
     (λ answers after contactor owed. owed .answered and owed .state and owed .last and tt)
     and (λ answers after contactor owed. owed .answered and owed .state and owed .test and owed .closed .1 (closed-on 1 example tt) and tt)
@@ -96,13 +96,13 @@ shows engine claims i h d answers after contactor run = at-index Owes rows each-
 
 module _ (starter : Starter) (claims : OfEveryType starter) (answer : ℕ) (start : Record) where
   pub type-0-gets-1 : starter 0 answer start → (answer ≡ 1) × starter 1 0 start
-  type-0-gets-1 starts = let owed = claims _ _ _ starts in (owed .number, owed .ofItsType)
+  type-0-gets-1 starts = let owed = claims _ _ _ starts in (owed .refusal, owed .ofItsType)
 
   pub type-3-gets-0 : starter 3 answer start → (answer ≡ 0) × (start .live .battery ≡ 3)
-  type-3-gets-0 starts = let owed = claims _ _ _ starts in (owed .number, owed .empty .batteryType)
+  type-3-gets-0 starts = let owed = claims _ _ _ starts in (owed .refusal, owed .empty .batteryType)
 
   pub type-4-gets-1 : starter 4 answer start → (answer ≡ 1) × starter 1 0 start
-  type-4-gets-1 starts = let owed = claims _ _ _ starts in (owed .number, owed .ofItsType)
+  type-4-gets-1 starts = let owed = claims _ _ _ starts in (owed .refusal, owed .ofItsType)
 
 -- ---- two lists alike but for override: one trip, held off the contactor in the first run alone
 
@@ -129,23 +129,23 @@ module _
   operational-in-the-second = sym (owed .state) ∙ owed .laidDown₁ .state
 
   pub tripped-in-the-second : T (keptOf after₂ 1 .tripped)
-  unfolding refusal plausible extremes permitted protection
+  unfolding refusal plausible extremes permitted rowOf
   tripped-in-the-second = subst T (owed .tripped 1 (omega arith)) (owed .laidDown₁ .tripped 1 (omega arith) .1 (tripped-on 1 1 (lowCellsUnder true) tt))
 
-  pub recorded-in-the-second : longEntries (after₂ .stores .faults) ≡ lowCellTrip
-  unfolding refusal plausible extremes permitted protection
+  pub recorded-in-the-second : longEntries (after₂ .stores .long) ≡ lowCellTrip
+  unfolding refusal plausible extremes permitted rowOf
   recorded-in-the-second = sym (owed .longTerm) ∙ owed .laidDown₁ .longTerm
 
   pub closed-in-the-first : contactorNumber contactor₁ ≡ 1
-  unfolding refusal plausible extremes permitted protection isClosed
+  unfolding refusal plausible extremes permitted rowOf isClosed
   closed-in-the-first = owed .closed₁ .1 (closed-on 1 (lowCellsUnder true) tt)
 
   pub open-in-the-second : contactorNumber contactor₂ ≢ 1
-  unfolding refusal plausible extremes permitted protection isClosed
+  unfolding refusal plausible extremes permitted rowOf isClosed
   open-in-the-second h = not-closed-on 1 (lowCellsUnder false) tt (owed .closed₂ .0 h)
 
   pub contactors-differ : contactorNumber contactor₁ ≢ contactorNumber contactor₂
-  unfolding refusal plausible extremes permitted protection isClosed
+  unfolding refusal plausible extremes permitted rowOf isClosed
   contactors-differ =
       owed .contactorsDiffer .1
       (record { justOne = true≢false; permits = closed .permits; some = (1, omega arith, one); allLiftable = liftable (closed .protections) })

@@ -31,25 +31,25 @@ abbrev pub negativeTimes : Milliamperes → Milliseconds → Charge
 negativeTimes i t = mAms (negativePart (i .0) * t .0)
 
 -- "For two neighbouring measurements of a session, both plausible": the last of those before, and the new one
-abbrev pub joins : (Milliamperes → Milliseconds → Charge) → List Measured → Measured → Charge
-joins part [] now = mAms 0
-joins part (earlier ∷ past) now =
+abbrev pub increment : (Milliamperes → Milliseconds → Charge) → List Measured → Measured → Charge
+increment part [] now = mAms 0
+increment part (earlier ∷ past) now =
     mAms (cond (plausible (earlier .reading) && plausible (now .reading)) (part (earlier .reading .current) (elapsed (earlier .at) (now .at)) .0) 0)
 
 -- what a call adds to an account: nothing unless it is a measurement
-abbrev pub joinsAt : (Milliamperes → Milliseconds → Charge) → Ledger → Event → Charge
-joinsAt part before (Measurement t r) = joins part (before .measured) (record { at = t; reading = r })
-joinsAt part before (PowerOn t) = mAms 0
-joinsAt part before (PowerLoss t) = mAms 0
-joinsAt part before (ContactorCommand t c) = mAms 0
-joinsAt part before (StateRequest t q) = mAms 0
-joinsAt part before (BattleOverride t on) = mAms 0
-joinsAt part before (ClearLongTerm t) = mAms 0
+abbrev pub incrementAt : (Milliamperes → Milliseconds → Charge) → Ledger → Event → Charge
+incrementAt part before (Measurement t r) = increment part (before .measured) (record { at = t; reading = r })
+incrementAt part before (PowerOn t) = mAms 0
+incrementAt part before (PowerLoss t) = mAms 0
+incrementAt part before (ContactorCommand t c) = mAms 0
+incrementAt part before (StateRequest t q) = mAms 0
+incrementAt part before (BattleOverride t on) = mAms 0
+incrementAt part before (ClearLongTerm t) = mAms 0
 
 -- an account over the accepted calls, newest first, of all sessions
 abbrev pub account : (Milliamperes → Milliseconds → Charge) → List Accepted → Charge
 account part [] = mAms 0
-account part (a ∷ past) = mAms (account part past .0 + joinsAt part (a .before) (a .call) .0)
+account part (a ∷ past) = mAms (account part past .0 + incrementAt part (a .before) (a .call) .0)
 
 abbrev pub charged : List Accepted → Charge
 charged past = account positiveTimes past

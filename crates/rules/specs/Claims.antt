@@ -43,11 +43,11 @@ pub record AfterList (battery : ℕ) (calls : List Event) (answers : List ℕ) (
   pub test : testNumber (after .live .watch .test) ≡ testOf (ledger calls .measured)
   pub failedMask : after .live .watch .mask ≡ failedMaskOf (ledger calls .measured)
   pub failedCount : after .live .watch .failed ≡ failedCountOf (ledger calls .measured)
-  pub tripped : (number : ℕ) → number < 8 → T (keptOf after number .tripped) ↔ TrippedOn battery (ledger calls) number
+  pub tripped : (protection : ℕ) → protection < 8 → T (keptOf after protection .tripped) ↔ TrippedOn battery (ledger calls) protection
   pub charged : after .live .tally .charged ≡ charged (accepted calls)
   pub discharged : after .live .tally .discharged ≡ discharged (accepted calls)
-  pub longTerm : longEntries (after .stores .faults) ≡ longTerm battery (accepted calls)
-  pub shortTerm : shortEntries (after .stores .recent) ≡ shortTerm battery (accepted calls)
+  pub longTerm : longEntries (after .stores .long) ≡ longTerm battery (accepted calls)
+  pub shortTerm : shortEntries (after .stores .short) ≡ shortTerm battery (accepted calls)
   pub sound : Sound after
   pub closed : (contactorNumber contactor ≡ 1) ↔ Closed battery (ledger calls)
 
@@ -72,15 +72,15 @@ pub record TwoRuns
   -- "the same state, command, tripped protections, test result, failed sensors, charge accounts, command count and fault stores"
   pub state : stateNumber (after₁ .live .control .state) ≡ stateNumber (after₂ .live .control .state)
   pub command : commandNumber (after₁ .live .control .command) ≡ commandNumber (after₂ .live .control .command)
-  pub tripped : (number : ℕ) → number < 8 → keptOf after₁ number .tripped ≡ keptOf after₂ number .tripped
+  pub tripped : (protection : ℕ) → protection < 8 → keptOf after₁ protection .tripped ≡ keptOf after₂ protection .tripped
   pub test : testNumber (after₁ .live .watch .test) ≡ testNumber (after₂ .live .watch .test)
   pub failedMask : after₁ .live .watch .mask ≡ after₂ .live .watch .mask
   pub failedCount : after₁ .live .watch .failed ≡ after₂ .live .watch .failed
   pub charged : after₁ .live .tally .charged ≡ after₂ .live .tally .charged
   pub discharged : after₁ .live .tally .discharged ≡ after₂ .live .tally .discharged
   pub commands : after₁ .live .tally .commands ≡ after₂ .live .tally .commands
-  pub longTerm : longEntries (after₁ .stores .faults) ≡ longEntries (after₂ .stores .faults)
-  pub shortTerm : shortEntries (after₁ .stores .recent) ≡ shortEntries (after₂ .stores .recent)
+  pub longTerm : longEntries (after₁ .stores .long) ≡ longEntries (after₂ .stores .long)
+  pub shortTerm : shortEntries (after₁ .stores .short) ≡ shortEntries (after₂ .stores .short)
   -- "each as document 01 lays it down for either list"
   pub laidDown₁ : AfterList battery calls₁ answers₁ after₁ contactor₁
   pub laidDown₂ : AfterList battery calls₂ answers₂ after₂ contactor₂
@@ -106,7 +106,7 @@ abbrev pub Starter : Type 1
 Starter = (battery : ℕ) → (answer : ℕ) → (start : Record) → Type 0
 
 pub record FreshOf (starter : Starter) (battery answer : ℕ) (start : Record) : Type 0 where
-  pub number : answer ≡ firstOf (freshChecks battery)
+  pub refusal : answer ≡ firstOf (freshChecks battery)
   -- "A fresh record has a type, is Unpowered (0), last time 0, everything empty.": what is owed after no call
   pub empty : AfterList (typeOr1 battery) [] [] start Open
   -- "beside it the fresh record of type 1", whole: the type's own number gets this record with 0, and no other

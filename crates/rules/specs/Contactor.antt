@@ -8,7 +8,7 @@ use Rattle.rules.specs.declared.states.State.{State}
 use Rattle.rules.specs.declared.states.State.the-variants.{Unpowered, Dormant, Operational, Maintenance}
 use Rattle.rules.specs.declared.calls.Command.{Command}
 use Rattle.rules.specs.declared.calls.Command.the-variants.{Automated, Open, ForceClosed}
-use Rattle.rules.specs.Protections.{protection}
+use Rattle.rules.specs.Protections.{rowOf}
 use Rattle.rules.specs.Ledger.{Ledger, testOf, TrippedOn, isTrippedOn}
 
 -- "the state is Operational with command Automated, or Maintenance with command Force closed"
@@ -25,13 +25,13 @@ abbrev pub InForce : Ledger → Type 0
 InForce l = l .override ≡ true
 
 abbrev pub AllLiftable : ℕ → Ledger → Type 0
-AllLiftable battery l = (number : ℕ) → number < 8 → TrippedOn battery l number → T (protection battery number .liftable)
+AllLiftable battery l = (protection : ℕ) → protection < 8 → TrippedOn battery l protection → T (rowOf battery protection .liftable)
 
 abbrev pub NoneTripped : ℕ → Ledger → Type 0
-NoneTripped battery l = (number : ℕ) → number < 8 → ¬ TrippedOn battery l number
+NoneTripped battery l = (protection : ℕ) → protection < 8 → ¬ TrippedOn battery l protection
 
 abbrev pub SomeTripped : ℕ → Ledger → Type 0
-SomeTripped battery l = (number : ℕ) × (number < 8) × TrippedOn battery l number
+SomeTripped battery l = (protection : ℕ) × (protection < 8) × TrippedOn battery l protection
 
 -- "Closed exactly when the test has passed; and the state is Operational with command Automated, or Maintenance with command Force
 -- closed; and every tripped protection is liftable with override in force, or none is tripped."
@@ -54,13 +54,13 @@ stateAndCommand Maintenance ForceClosed = true
 -- whether a test holds of each protection below n
 abbrev pub eachBelow : (ℕ → Bool) → ℕ → Bool
 eachBelow test zero = true
-eachBelow test (suc number) = eachBelow test number && test number
+eachBelow test (suc protection) = eachBelow test protection && test protection
 
 unfoldable pub isClosed : ℕ → Ledger → Bool
 isClosed battery l =
     (eqb (testOf (l .measured)) 1 && stateAndCommand (l .state) (l .command))
-    && ((eachBelow (λ number. not (isTrippedOn battery l number) || protection battery number .liftable) 8 && l .override)
-    || eachBelow (λ number. not (isTrippedOn battery l number)) 8)
+    && ((eachBelow (λ protection. not (isTrippedOn battery l protection) || rowOf battery protection .liftable) 8 && l .override)
+    || eachBelow (λ protection. not (isTrippedOn battery l protection)) 8)
 
 -- ---- two runs
 

@@ -6,7 +6,7 @@ use mathlib.Core.Bool.{not}
 use mathlib.Core.List.{List, [], _∷_, List·Memᴰ, Forall₂}
 use lib.Dec.{T}
 use lib.IntN.{ℤ, pos, negℤ}
-use Rattle.rules.specs.declared.reading.Reading.{Reading}
+use Rattle.rules.specs.declared.sensors.Reading.{Reading}
 use Rattle.rules.specs.declared.calls.Event.{Event}
 use Rattle.rules.specs.declared.calls.Event.the-variants.{Measurement, PowerOn}
 use Rattle.rules.specs.Quantities.{mV, mA, ms, dC, mAms, missionTime}
@@ -72,9 +72,9 @@ pub data Row : Type 0 where
 
 abbrev pub Holds : Row → Type 0
 Holds (permits battery coldest current) = permitted battery (dC coldest) ≡ mA (pos current)
-Holds (leaves types frames number outcome) =
+Holds (leaves types frames protection outcome) =
     (battery : ℕ) → List·Memᴰ battery types → (start : ℕ) (taken : List Measured) → Forall₂ (Meets start) frames taken
-    → Comes outcome (TrippedOn battery (ledger (session taken)) number)
+    → Comes outcome (TrippedOn battery (ledger (session taken)) protection)
 Holds (charges frames amount) =
     (start : ℕ) (taken : List Measured) → Forall₂ (Meets start) frames taken → charged (accepted (session taken)) ≡ mAms amount
 

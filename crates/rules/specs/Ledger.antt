@@ -13,7 +13,7 @@ use Rattle.rules.specs.Quantities.{ms}
 use Rattle.rules.specs.States.{requested, isChange, entersDormant}
 use Rattle.rules.specs.Refusals.{refusal}
 use Rattle.rules.specs.Test.{plausible, failedMask, failedCount}
-use Rattle.rules.specs.Protections.{protection, maskBelow}
+use Rattle.rules.specs.Protections.{rowOf, maskBelow}
 use Rattle.rules.specs.Trips.{Measured, Tripped, isTripped}
 
 -- document 01, "ledger": "It holds state, command, override, last time, command count and the session's measurements", the newest
@@ -136,10 +136,10 @@ failedCountOf (m ∷ taken) = failedCount (m .reading)
 
 -- protection `number` of a battery type is tripped on a ledger; `isTrippedOn` is the test that computes
 abbrev pub TrippedOn : ℕ → Ledger → ℕ → Type 0
-TrippedOn battery l number = Tripped (protection battery number) (l .measured)
+TrippedOn battery l protection = Tripped (rowOf battery protection) (l .measured)
 
 abbrev pub isTrippedOn : ℕ → Ledger → ℕ → Bool
-isTrippedOn battery l number = isTripped (protection battery number) (l .measured)
+isTrippedOn battery l protection = isTripped (rowOf battery protection) (l .measured)
 
 abbrev pub trippedMaskOn : ℕ → Ledger → ℕ
 trippedMaskOn battery l = maskBelow (isTrippedOn battery l) 8

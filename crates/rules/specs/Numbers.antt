@@ -5,7 +5,7 @@ use mathlib.Core.Bool.{Bool, true, false}
 use mathlib.Core.List.{List, [], _∷_}
 use lib.IntN.{ℤ, pos, natAbs}
 use lib.ListN.{getD}
-use Rattle.rules.specs.declared.reading.Reading.{Reading}
+use Rattle.rules.specs.declared.sensors.Reading.{Reading}
 use Rattle.rules.specs.declared.states.State.{State}
 use Rattle.rules.specs.declared.states.State.the-variants.{Unpowered, Dormant, Operational, Maintenance}
 use Rattle.rules.specs.declared.states.TestResult.{TestResult}
@@ -170,22 +170,22 @@ eventOf kind values =
 pub data ReadAnswer : Type 0 where
   found : (kind : ℕ) → (values : List ℤ) → (next : ℕ) → ReadAnswer
   end : ReadAnswer
-  refused : (number position : ℕ) → ReadAnswer
+  refused : (refusal position : ℕ) → ReadAnswer
 
 abbrev pub answerOfReadEvent : ReadEvent → ReadAnswer
 answerOfReadEvent (FoundEvent e next) = found (eventKind e) (eventValues e) next
 answerOfReadEvent NoEvent = end
-answerOfReadEvent (RefusedEvent number position) = refused number position
+answerOfReadEvent (RefusedEvent refusal position) = refused refusal position
 
 abbrev pub answerOfReadEntry : ReadEntry → ReadAnswer
 answerOfReadEntry (FoundEntry e next) = found (entryKind e) (entryValues e) next
 answerOfReadEntry NoEntry = end
-answerOfReadEntry (RefusedEntry number position) = refused number position
+answerOfReadEntry (RefusedEntry refusal position) = refused refusal position
 
 -- what a writer or an export answers: the number of bytes written, or a refusal
 pub data WriteAnswer : Type 0 where
   bytes : (count : ℕ) → WriteAnswer
-  refused : (number : ℕ) → WriteAnswer
+  refused : (refusal : ℕ) → WriteAnswer
 
 abbrev pub answerOfWrite : Written → WriteAnswer
 answerOfWrite (Bytes n) = bytes n

@@ -9,8 +9,8 @@ use Rattle.rules.specs.declared.units.Millivolts.{Millivolts}
 use Rattle.rules.specs.declared.units.Milliamperes.{Milliamperes}
 use Rattle.rules.specs.declared.units.Milliseconds.{Milliseconds}
 use Rattle.rules.specs.declared.units.DeciCelsius.{DeciCelsius}
-use Rattle.rules.specs.declared.reading.Reading.{Reading}
-use Rattle.rules.specs.declared.reading.Extremes.{Extremes}
+use Rattle.rules.specs.declared.sensors.Reading.{Reading}
+use Rattle.rules.specs.declared.sensors.Extremes.{Extremes}
 use Rattle.rules.specs.Quantities.{mV, mA, ms, dC, _<mV_, _≤mV_, _<mA_, _≤mA_, _<dC_, _≤dC_, sum, negated, chargeRating, dischargeRating}
 
 -- ---- highest and lowest cell, hottest and coldest
@@ -172,10 +172,10 @@ table battery =
     overvoltage ∷ undervoltage ∷ overtemperature ∷ coldCharge ∷ chargeOvercurrent battery ∷ shortCircuit battery ∷ dischargeOvercurrent battery ∷ imbalance ∷ []
 
 -- the row of a number; there is none from 8 on, and row 0 answers
-unfoldable pub protection : ℕ → ℕ → Protection
-protection battery number = getD (table battery) number overvoltage
+unfoldable pub rowOf : ℕ → ℕ → Protection
+rowOf battery protection = getD (table battery) protection overvoltage
 
 -- "as a mask with bit = number": of the protections below n, those that a test picks
 abbrev pub maskBelow : (ℕ → Bool) → ℕ → ℕ
 maskBelow test zero = 0
-maskBelow test (suc number) = maskBelow test number + cond (test number) (2 ^ number) 0
+maskBelow test (suc protection) = maskBelow test protection + cond (test protection) (2 ^ protection) 0

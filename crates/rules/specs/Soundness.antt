@@ -6,10 +6,10 @@ use lib.Dec.{T}
 use lib.ListN.{getD}
 use Rattle.rules.specs.declared.units.Milliseconds.{Milliseconds}
 use Rattle.rules.specs.declared.units.Charge.{Charge}
-use Rattle.rules.specs.declared.tracking.Span.{Span}
-use Rattle.rules.specs.declared.tracking.Span.the-variants.{Idle, Beyond, Within}
-use Rattle.rules.specs.declared.tracking.Previous.{Previous}
-use Rattle.rules.specs.declared.tracking.Previous.the-variants.{Nothing, Frame}
+use Rattle.rules.specs.declared.session.Span.{Span}
+use Rattle.rules.specs.declared.session.Span.the-variants.{Idle, Beyond, Within}
+use Rattle.rules.specs.declared.session.Previous.{Previous}
+use Rattle.rules.specs.declared.session.Previous.the-variants.{Nothing, Frame}
 use Rattle.rules.specs.declared.battery.Record.{Record}
 use Rattle.rules.specs.Quantities.{mAms, missionTime, isType}
 use Rattle.rules.specs.Test.{currentInRange}
@@ -31,8 +31,8 @@ KeptInRange Nothing = Unit {0}
 KeptInRange (Frame t i) = T (currentInRange i)
 
 -- every counted protection number is at most 7
-abbrev pub NumbersBelow8 : ℕ → List ℕ → Type 0
-NumbersBelow8 count numbers = (place : ℕ) → place < count → getD numbers place 0 ≤ 7
+abbrev pub ProtectionsBelow8 : ℕ → List ℕ → Type 0
+ProtectionsBelow8 count numbers = (place : ℕ) → place < count → getD numbers place 0 ≤ 7
 
 -- the most that an account may hold at a last time
 abbrev pub accountLimit : Milliseconds → Charge
@@ -45,18 +45,18 @@ pub record Sound (r : Record) : Type 0 where
   -- "last time above 345,600,000"
   pub lastTime : r .live .last .0 ≤ missionTime .0
   -- "more than 64 or 16 entries counted"
-  pub longCount : r .stores .faults .count ≤ 64
-  pub shortCount : r .stores .recent .count ≤ 16
+  pub longCount : r .stores .long .count ≤ 64
+  pub shortCount : r .stores .short .count ≤ 16
   -- "a counted entry's protection above 7"
-  pub longNumbers : NumbersBelow8 (r .stores .faults .count) (r .stores .faults .protections)
-  pub shortNumbers : NumbersBelow8 (r .stores .recent .count) (r .stores .recent .protections)
+  pub longProtections : ProtectionsBelow8 (r .stores .long .count) (r .stores .long .protections)
+  pub shortProtections : ProtectionsBelow8 (r .stores .short .count) (r .stores .short .protections)
   -- "a sensor mask above 13 bits"
   pub mask : r .live .watch .mask < 8_192
   -- "an account above 2,000,000 × last time"
   pub charged : r .live .tally .charged .0 ≤ accountLimit (r .live .last) .0
   pub discharged : r .live .tally .discharged .0 ≤ accountLimit (r .live .last) .0
   -- "a span start or last measurement later than the last time"
-  pub spans : (number : ℕ) → number < 8 → StartedBy (r .live .last) (keptOf r number .span)
+  pub spans : (protection : ℕ) → protection < 8 → StartedBy (r .live .last) (keptOf r protection .span)
   pub previous : MeasuredBy (r .live .last) (r .live .watch .previous)
   -- "a kept current outside the plausible range"
   pub current : KeptInRange (r .live .watch .previous)

@@ -7,7 +7,7 @@ use lib.IntN.{pos, negℤ}
 use Rattle.rules.specs.declared.units.Millivolts.{Millivolts}
 use Rattle.rules.specs.declared.units.Milliamperes.{Milliamperes}
 use Rattle.rules.specs.declared.units.DeciCelsius.{DeciCelsius}
-use Rattle.rules.specs.declared.reading.Reading.{Reading}
+use Rattle.rules.specs.declared.sensors.Reading.{Reading}
 use Rattle.rules.specs.Quantities.{mV, mA, dC, _≤mV_, _≤mA_, _≤dC_}
 
 -- "every cell is 500 to 5,000, the current -2,000,000 to 2,000,000 and every temperature -540 to 880"

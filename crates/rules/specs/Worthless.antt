@@ -7,7 +7,7 @@ use mathlib.Core.Bool.{Bool, true}
 use mathlib.Core.List.{List, [], _∷_}
 use lib.Dec.{T}
 use lib.IntN.{ℤ, pos, negℤ}
-use Rattle.rules.specs.declared.reading.Reading.{Reading}
+use Rattle.rules.specs.declared.sensors.Reading.{Reading}
 use Rattle.rules.specs.declared.states.Contactor.{Contactor}
 use Rattle.rules.specs.declared.calls.Command.the-variants.{Automated, Open, ForceClosed}
 use Rattle.rules.specs.declared.calls.Request.the-variants.{Operational, Maintenance}
@@ -42,12 +42,12 @@ Seen given after contactor (commands n) = after .live .tally .commands ≡ n
 Seen given after contactor (test n) = testNumber (after .live .watch .test) ≡ n
 Seen given after contactor (failedMask n) = after .live .watch .mask ≡ n
 Seen given after contactor (failedCount n) = after .live .watch .failed ≡ n
-Seen given after contactor (tripped number) = T (keptOf after number .tripped)
-Seen given after contactor (clear number) = ¬ T (keptOf after number .tripped)
+Seen given after contactor (tripped protection) = T (keptOf after protection .tripped)
+Seen given after contactor (clear protection) = ¬ T (keptOf after protection .tripped)
 Seen given after contactor (charged n) = after .live .tally .charged ≡ mAms n
 Seen given after contactor (discharged n) = after .live .tally .discharged ≡ mAms n
-Seen given after contactor (longTerm es) = longEntries (after .stores .faults) ≡ es
-Seen given after contactor (shortTerm es) = shortEntries (after .stores .recent) ≡ es
+Seen given after contactor (longTerm es) = longEntries (after .stores .long) ≡ es
+Seen given after contactor (shortTerm es) = shortEntries (after .stores .short) ≡ es
 Seen given after contactor closed = contactorNumber contactor ≡ 1
 Seen given after contactor open' = contactorNumber contactor ≢ 1
 

@@ -26,12 +26,12 @@ pub enum Written {
 
 // A fresh record, with the refusal of its type.
 pub struct Fresh {
-    pub number: u8,
+    pub refusal: u8,
     pub start: Record,
 }
 
 // What a call leaves, with its refusal.
 pub struct Outcome {
-    pub number: u8,
+    pub refusal: u8,
     pub after: Record,
 }

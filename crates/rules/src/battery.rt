@@ -1,9 +1,9 @@
 // The record that the engine keeps of one battery, nested by what can touch each part; the stores stand apart from what every call
 // writes.
 use crate::calls::Command;
+use crate::session::Watch;
 use crate::states::State;
 use crate::stores::Stores;
-use crate::tracking::Watch;
 use crate::units::Charge;
 use crate::units::Milliseconds;
 

@@ -2,8 +2,8 @@
 pub mod answers;
 pub mod battery;
 pub mod calls;
-pub mod reading;
+pub mod sensors;
+pub mod session;
 pub mod states;
 pub mod stores;
-pub mod tracking;
 pub mod units;

@@ -1,4 +1,4 @@
--- An accepted call leaves a record that shows the ledger after it. Assumes nothing.
+-- An accepted call leaves a record that shows the ledger after it.
 use mathlib.Core.Path.{_≡_, refl, sym, ap, ap₂, subst, _∙_}
 use mathlib.Core.Bool.{Bool, true, false, not, cond, _&&_}
 use mathlib.Core.List.{List, [], _∷_, _++_, append-nil}
@@ -9,7 +9,7 @@ use lib.ListN.{take}
 use Rattle.rules.specs.declared.units.Milliamperes.{Milliamperes}
 use Rattle.rules.specs.declared.units.Milliseconds.{Milliseconds}
 use Rattle.rules.specs.declared.units.Charge.{Charge}
-use Rattle.rules.specs.declared.reading.Reading.{Reading}
+use Rattle.rules.specs.declared.sensors.Reading.{Reading}
 use Rattle.rules.specs.declared.states.State.{State}
 use Rattle.rules.specs.declared.states.State.the-variants.{Unpowered, Dormant, Operational, Maintenance}
 use Rattle.rules.specs.declared.states.TestResult.the-variants.{Passed, Failed}
@@ -19,8 +19,8 @@ use Rattle.rules.specs.declared.calls.Request.{Request}
 use Rattle.rules.specs.declared.calls.Request.the-variants.{Dormant as ToDormant, Operational as ToOperational, Maintenance as ToMaintenance}
 use Rattle.rules.specs.declared.calls.Event.{Event}
 use Rattle.rules.specs.declared.calls.Event.the-variants.{Measurement, PowerOn, PowerLoss, ContactorCommand, StateRequest, BattleOverride, ClearLongTerm}
-use Rattle.rules.specs.declared.tracking.Watch.{Watch}
-use Rattle.rules.specs.declared.tracking.ProtectionState.{ProtectionState}
+use Rattle.rules.specs.declared.session.Watch.{Watch}
+use Rattle.rules.specs.declared.session.ProtectionState.{ProtectionState}
 use Rattle.rules.specs.declared.stores.Stores.{Stores}
 use Rattle.rules.specs.declared.battery.Control.{Control}
 use Rattle.rules.specs.declared.battery.Record.{Record}
@@ -30,14 +30,14 @@ use Rattle.rules.specs.Numbers.{testNumber}
 use Rattle.rules.specs.States.{requested, isChange, entersDormant}
 use Rattle.rules.specs.Quantities.{mAms}
 use Rattle.rules.specs.Test.{plausible}
-use Rattle.rules.specs.Protections.{protection}
+use Rattle.rules.specs.Protections.{rowOf}
 use Rattle.rules.specs.Trips.{Measured}
 use Rattle.rules.specs.Ledger.{Ledger, accept, Accepted, entered, isTrippedOn}
 use Rattle.rules.specs.Stores.{since, isClear, isBorder, tripsOf, entriesOf, longTerm, shortTerm, lastOf}
-use Rattle.rules.specs.Accounts.{account, joins, charged, discharged, positiveTimes, negativeTimes}
+use Rattle.rules.specs.Accounts.{account, increment, charged, discharged, positiveTimes, negativeTimes}
 use Rattle.rules.specs.Shown.{longEntries, shortEntries}
 use Rattle.rules.proofs.Apart.{apart}
-use Rattle.step.specs.Fresh.{noWatch, controlIn, noneRecent}
+use Rattle.step.specs.Fresh.{noWatch, controlIn, noShortTerm}
 use Rattle.step.specs.Sound.{at}
 use Rattle.step.specs.Track.{trackOne, trackAll, observe}
 use Rattle.step.specs.Charge.{flowed, charge}
@@ -47,7 +47,7 @@ use Rattle.step.proofs.Tracking.{AllBy, Ordered, all-by-later, Tracks, 
 use Rattle.step.proofs.Refusals.{InTime}
 use Rattle.step.proofs.Lists.{take-kept, last-kept}
 use Rattle.step.proofs.Adding.{Added, added-all}
-use Rattle.step.proofs.Charging.{flowed-is, accountTime, Bounded, joins-bounded, positive-bounded, negative-bounded}
+use Rattle.step.proofs.Charging.{flowed-is, accountTime, Bounded, increment-bounded, positive-bounded, negative-bounded}
 use Rattle.step.proofs.Shows.{ShowsControl, ShowsWatch, ShowsTally, ShowsStores, Timed, Shows, watch-none, long-none, short-none}
 
 -- ---- what a call leaves as it is
@@ -109,13 +109,13 @@ module _ (battery : ℕ) (t : Milliseconds) (r : Reading) (taken : List Measured
   abbrev now : Measured
   now = record { at = t; reading = r }
 
-  tracked-at : (states : List ProtectionState) (number : ℕ) → number < 8 → Tracks (protection battery number) (at states number) taken
-      → Tracks (protection battery number) (at (trackAll battery t r states) number) (now ∷ taken)
+  tracked-at : (states : List ProtectionState) (protection : ℕ) → protection < 8 → Tracks (rowOf battery protection) (at states protection) taken
+      → Tracks (rowOf battery protection) (at (trackAll battery t r states) protection) (now ∷ taken)
   unfolding trackAll
-  tracked-at states number h k =
-      subst (λ s. Tracks (protection battery number) s (now ∷ taken))
-      (sym (at-place 8 (λ i. trackOne (protection battery i) t r (at states i)) _ number h))
-      (tracks-next (protection battery number) (apart battery number h) now taken o (at states number) k)
+  tracked-at states protection h k =
+      subst (λ s. Tracks (rowOf battery protection) s (now ∷ taken))
+      (sym (at-place 8 (λ i. trackOne (rowOf battery i) t r (at states i)) _ protection h))
+      (tracks-next (rowOf battery protection) (apart battery protection h) now taken o (at states protection) k)
 
   observed : (w : Watch) → ShowsWatch battery w taken → ShowsWatch battery (observe battery t r w) (now ∷ taken)
   unfolding observe
@@ -124,7 +124,7 @@ module _ (battery : ℕ) (t : Milliseconds) (r : Reading) (taken : List Measured
     mask = refl;
     failed = refl;
     previous = refl;
-    protections = λ number h. tracked-at (w .protections) number h (k .protections number h);
+    protections = λ protection h. tracked-at (w .protections) protection h (k .protections protection h);
   }
 
 module _ (r : Record) (l : Ledger) (past : List Accepted) (k : Shows r l past) where
@@ -161,7 +161,7 @@ module _ (r : Record) (l : Ledger) (past : List Accepted) (k : Shows r l past) w
       more : Charge
       more = flowed part (r .live .watch .previous) (plausible m) t
 
-      is-joined : more ≡ joins part (l .measured) new
+      is-joined : more ≡ increment part (l .measured) new
       unfolding more
       is-joined = rw (k .watch .previous) (flowed-is part (l .measured) t m)
 
@@ -171,7 +171,7 @@ module _ (r : Record) (l : Ledger) (past : List Accepted) (k : Shows r l past) w
       account-by : n .0 ≤ 2_000_000 * accountTime (l .last .0) (l .measured) → n .0 + more .0 ≤ 2_000_000 * t .0
       account-by q =
           rw is-joined
-          (joins-bounded part b (l .measured) new (l .last .0) (n .0) (omega (arith, account-time (l .last .0) (l .measured) (k .timed .by), h .after)) q)
+          (increment-bounded part b (l .measured) new (l .last .0) (n .0) (omega (arith, account-time (l .last .0) (l .measured) (k .timed .by), h .after)) q)
 
     tallied : ShowsTally (advance r (Measurement t m) .live .tally) (l .commands) (t .0) (a ∷ past)
     unfolding charge more
@@ -201,10 +201,10 @@ module _ (r : Record) (l : Ledger) (past : List Accepted) (k : Shows r l past) w
     timed = timed-later (l .last .0) (t .0) (l .measured) h (k .timed)
 
     -- the stores that are kept, with a past that has more and adds nothing
-    long-kept : longEntries (r .stores .faults) ≡ take 64 (since isClear (tripsOf (r .live .battery)) past ++ [])
+    long-kept : longEntries (r .stores .long) ≡ take 64 (since isClear (tripsOf (r .live .battery)) past ++ [])
     long-kept = rw append-nil (k .stores .long)
 
-    short-kept : shortEntries (r .stores .recent) ≡ lastOf 16 (since isBorder (entriesOf (r .live .battery)) past ++ [])
+    short-kept : shortEntries (r .stores .short) ≡ lastOf 16 (since isBorder (entriesOf (r .live .battery)) past ++ [])
     short-kept = rw append-nil (k .stores .short)
 
     -- the accounts likewise
@@ -290,7 +290,7 @@ module _ (r : Record) (l : Ledger) (past : List Accepted) (k : Shows r l past) w
         → shortTerm (r .live .battery) (more ∷ past) ≡ []
         → Shows (record {
           live = record { battery = r .live .battery; last = t; control = controlIn s; watch = noWatch; tally = r .live .tally };
-          stores = record { recent = noneRecent; faults = r .stores .faults };
+          stores = record { short = noShortTerm; long = r .stores .long };
         }) (bordered s) (more ∷ past)
     unfolding shortEntries
     border s more p p' long short = record {

@@ -1,4 +1,4 @@
--- What a measurement adds to both stores: its trips in rising number, then its releases likewise. Assumes nothing.
+-- What a measurement adds to both stores: its trips in rising number, then its releases likewise.
 use mathlib.Core.Path.{_≡_, refl, sym, ap, _∙_}
 use mathlib.Core.Bool.{Bool, true, false, not, cond, _&&_}
 use mathlib.Core.List.{List, [], _∷_, _++_, append-assoc, append-nil}
@@ -8,13 +8,13 @@ use lib.IntN.{ℤ, pos}
 use lib.ListN.{take}
 use lib.Seq.{take-all}
 use Rattle.rules.specs.declared.units.Milliseconds.{Milliseconds}
-use Rattle.rules.specs.declared.reading.Reading.{Reading}
-use Rattle.rules.specs.declared.tracking.ProtectionState.{ProtectionState}
+use Rattle.rules.specs.declared.sensors.Reading.{Reading}
+use Rattle.rules.specs.declared.session.ProtectionState.{ProtectionState}
 use Rattle.rules.specs.declared.stores.Entry.{Entry}
 use Rattle.rules.specs.declared.stores.Entry.the-variants.{Trip, Release}
 use Rattle.rules.specs.declared.stores.Stores.{Stores}
-use Rattle.rules.specs.Protections.{protection}
-use Rattle.rules.specs.Stores.{lastOf, inRisingNumber}
+use Rattle.rules.specs.Protections.{rowOf}
+use Rattle.rules.specs.Stores.{lastOf, ascending}
 use Rattle.rules.specs.Shown.{longEntry, shortEntry, longEntries, shortEntries}
 use Rattle.step.specs.Sound.{at}
 use Rattle.step.specs.Push.{pushTrip, pushRelease, trips, releases, pushTrips, pushReleases, pushAll}
@@ -22,13 +22,13 @@ use Rattle.step.proofs.Lists.{length-first, take-kept, last-kept, last-
 use Rattle.step.proofs.Storing.{LongFits, ShortFits, long-pushed, long-fits, short-pushed, short-fits}
 
 pub record StoresFit (s : Stores) : Type 0 where
-  pub long : LongFits (s .faults)
-  pub short : ShortFits (s .recent)
+  pub long : LongFits (s .long)
+  pub short : ShortFits (s .short)
 
 -- what was put into the stores s, when they have become q
 pub record Added (s q : Stores) (longs shorts : List Entry) : Type 0 where
-  pub long : longEntries (q .faults) ≡ take 64 (longEntries (s .faults) ++ longs)
-  pub short : shortEntries (q .recent) ≡ lastOf 16 (shortEntries (s .recent) ++ shorts)
+  pub long : longEntries (q .long) ≡ take 64 (longEntries (s .long) ++ longs)
+  pub short : shortEntries (q .short) ≡ lastOf 16 (shortEntries (s .short) ++ shorts)
   pub fits : StoresFit q
 
 -- ---- one entry more, in a store that keeps some of what it is given
@@ -45,27 +45,27 @@ keeps-more keep kept xs ys e now before b n =
 added-none : (s : Stores) → StoresFit s → Added s s [] []
 unfolding longEntries shortEntries
 added-none s f = record {
-  long = rw append-nil (sym (take-all 64 (longEntries (s .faults)) (omega (arith, length-first (s .faults .count) (longEntry (s .faults)), f .long .count))));
-  short = rw append-nil (sym (last-all 16 (shortEntries (s .recent)) (omega (arith, length-first (s .recent .count) (shortEntry (s .recent)), f .short .count))));
+  long = rw append-nil (sym (take-all 64 (longEntries (s .long)) (omega (arith, length-first (s .long .count) (longEntry (s .long)), f .long .count))));
+  short = rw append-nil (sym (last-all 16 (shortEntries (s .short)) (omega (arith, length-first (s .short .count) (shortEntry (s .short)), f .short .count))));
   fits = f;
 }
 
-module _ (s q : Stores) (longs shorts : List Entry) (a : Added s q longs shorts) (t : Milliseconds) (number : ℕ) (k : number ≤ 7) where
-  added-trip : (v : ℤ) → Added s (pushTrip q t number v) (longs ++ (Trip t number v ∷ [])) (shorts ++ (Trip t number v ∷ []))
+module _ (s q : Stores) (longs shorts : List Entry) (a : Added s q longs shorts) (t : Milliseconds) (protection : ℕ) (k : protection ≤ 7) where
+  added-trip : (v : ℤ) → Added s (pushTrip q t protection v) (longs ++ (Trip t protection v ∷ [])) (shorts ++ (Trip t protection v ∷ []))
   added-trip v = record {
-    long = keeps-more (take 64) (take-kept 64) (longEntries (s .faults)) longs _ _ _ (a .long) (long-pushed (q .faults) (a .fits .long) t number v);
-    short = keeps-more (lastOf 16) (last-kept 16) (shortEntries (s .recent)) shorts _ _ _ (a .short) (short-pushed (q .recent) (a .fits .short) t number v false);
+    long = keeps-more (take 64) (take-kept 64) (longEntries (s .long)) longs _ _ _ (a .long) (long-pushed (q .long) (a .fits .long) t protection v);
+    short = keeps-more (lastOf 16) (last-kept 16) (shortEntries (s .short)) shorts _ _ _ (a .short) (short-pushed (q .short) (a .fits .short) t protection v false);
     fits = record {
-      long = long-fits (q .faults) (a .fits .long) t number v k;
-      short = short-fits (q .recent) (a .fits .short) t number v false k;
+      long = long-fits (q .long) (a .fits .long) t protection v k;
+      short = short-fits (q .short) (a .fits .short) t protection v false k;
     };
   }
 
-  added-release : Added s (pushRelease q t number) longs (shorts ++ (Release t number ∷ []))
+  added-release : Added s (pushRelease q t protection) longs (shorts ++ (Release t protection ∷ []))
   added-release = record {
     long = a .long;
-    short = keeps-more (lastOf 16) (last-kept 16) (shortEntries (s .recent)) shorts _ _ _ (a .short) (short-pushed (q .recent) (a .fits .short) t number (pos 0) true);
-    fits = record { long = a .fits .long; short = short-fits (q .recent) (a .fits .short) t number (pos 0) true k };
+    short = keeps-more (lastOf 16) (last-kept 16) (shortEntries (s .short)) shorts _ _ _ (a .short) (short-pushed (q .short) (a .fits .short) t protection (pos 0) true);
+    fits = record { long = a .fits .long; short = short-fits (q .short) (a .fits .short) t protection (pos 0) true k };
   }
 
 -- ---- the protections, one after the other
@@ -79,13 +79,13 @@ module _
     (before-is : (i : ℕ) → i < 8 → at before i .tripped ≡ was i)
     (after-is : (i : ℕ) → i < 8 → at after i .tripped ≡ now i) where
   abbrev pub tripAt : ℕ → List Entry
-  tripAt i = cond (not (was i) && now i) (Trip t i (protection battery i .value r) ∷ []) []
+  tripAt i = cond (not (was i) && now i) (Trip t i (rowOf battery i .value r) ∷ []) []
 
   abbrev pub releaseAt : ℕ → List Entry
   releaseAt i = cond (was i && not (now i)) (Release t i ∷ []) []
 
   module _ (s : Stores) (f : StoresFit s) where
-    added-trips : (n : ℕ) → n ≤ 8 → Added s (pushTrips battery t r before after s n) (inRisingNumber tripAt n) (inRisingNumber tripAt n)
+    added-trips : (n : ℕ) → n ≤ 8 → Added s (pushTrips battery t r before after s n) (ascending tripAt n) (ascending tripAt n)
     unfolding pushTrips
     added-trips zero h = added-none s f
     added-trips (suc n) h = go (not (was n) && now n) same (added-trips n (omega arith))
@@ -96,15 +96,15 @@ module _
         sofar : Stores
         sofar = pushTrips battery t r before after s n
 
-        go : (b : Bool) → trips before after n ≡ b → Added s sofar (inRisingNumber tripAt n) (inRisingNumber tripAt n)
-            → Added s (cond (trips before after n) (pushTrip sofar t n (protection battery n .value r)) sofar)
-            (inRisingNumber tripAt n ++ cond b (Trip t n (protection battery n .value r) ∷ []) [])
-            (inRisingNumber tripAt n ++ cond b (Trip t n (protection battery n .value r) ∷ []) [])
-        go true e a = rw e (added-trip s sofar (inRisingNumber tripAt n) (inRisingNumber tripAt n) a t n (omega arith) (protection battery n .value r))
+        go : (b : Bool) → trips before after n ≡ b → Added s sofar (ascending tripAt n) (ascending tripAt n)
+            → Added s (cond (trips before after n) (pushTrip sofar t n (rowOf battery n .value r)) sofar)
+            (ascending tripAt n ++ cond b (Trip t n (rowOf battery n .value r) ∷ []) [])
+            (ascending tripAt n ++ cond b (Trip t n (rowOf battery n .value r) ∷ []) [])
+        go true e a = rw e (added-trip s sofar (ascending tripAt n) (ascending tripAt n) a t n (omega arith) (rowOf battery n .value r))
         go false e a = rw (e, append-nil) a
 
     added-releases : (q : Stores) (longs shorts : List Entry) → Added s q longs shorts → (n : ℕ) → n ≤ 8
-        → Added s (pushReleases t before after q n) longs (shorts ++ inRisingNumber releaseAt n)
+        → Added s (pushReleases t before after q n) longs (shorts ++ ascending releaseAt n)
     unfolding pushReleases
     added-releases q longs shorts a zero h = rw append-nil a
     added-releases q longs shorts a (suc n) h = go (was n && not (now n)) same (added-releases q longs shorts a n (omega arith))
@@ -115,15 +115,15 @@ module _
         sofar : Stores
         sofar = pushReleases t before after q n
 
-        go : (b : Bool) → releases before after n ≡ b → Added s sofar longs (shorts ++ inRisingNumber releaseAt n)
+        go : (b : Bool) → releases before after n ≡ b → Added s sofar longs (shorts ++ ascending releaseAt n)
             → Added s (cond (releases before after n) (pushRelease sofar t n) sofar) longs
-            (shorts ++ (inRisingNumber releaseAt n ++ cond b (Release t n ∷ []) []))
-        go true e a = rw (e, ← append-assoc) (added-release s sofar longs (shorts ++ inRisingNumber releaseAt n) a t n (omega arith))
+            (shorts ++ (ascending releaseAt n ++ cond b (Release t n ∷ []) []))
+        go true e a = rw (e, ← append-assoc) (added-release s sofar longs (shorts ++ ascending releaseAt n) a t n (omega arith))
         go false e a = rw (e, append-nil) a
 
     -- all of them
-    pub added-all : Added s (pushAll battery t r before after s) (inRisingNumber tripAt 8) (inRisingNumber tripAt 8 ++ inRisingNumber releaseAt 8)
+    pub added-all : Added s (pushAll battery t r before after s) (ascending tripAt 8) (ascending tripAt 8 ++ ascending releaseAt 8)
     unfolding pushAll
     added-all =
-        added-releases (pushTrips battery t r before after s 8) (inRisingNumber tripAt 8) (inRisingNumber tripAt 8) (added-trips 8 (omega arith)) 8
+        added-releases (pushTrips battery t r before after s 8) (ascending tripAt 8) (ascending tripAt 8) (added-trips 8 (omega arith)) 8
         (omega arith)

@@ -1,4 +1,4 @@
--- Small laws of Bool that the other files cite. Assumes nothing.
+-- Small laws of Bool that the other files cite.
 use mathlib.Core.Path.{_≡_, refl, sym, subst}
 use mathlib.Core.Logic.{_↔_}
 use mathlib.Core.Bool.{Bool, true, false, _&&_, true≢false}

@@ -1,5 +1,4 @@
--- The accounts of the step are those of the rules, and never pass 2,000,000 × the time of the session's last measurement. Assumes
--- nothing.
+-- The accounts of the step are those of the rules, and never pass 2,000,000 × the time of the session's last measurement.
 use mathlib.Core.Path.{_≡_, refl, sym, subst}
 use mathlib.Core.Bool.{Bool, true, false, cond, _&&_}
 use mathlib.Core.List.{List, [], _∷_}
@@ -12,13 +11,13 @@ use lib.ListN.{getD}
 use Rattle.rules.specs.declared.units.Milliamperes.{Milliamperes}
 use Rattle.rules.specs.declared.units.Milliseconds.{Milliseconds}
 use Rattle.rules.specs.declared.units.Charge.{Charge}
-use Rattle.rules.specs.declared.reading.Reading.{Reading}
-use Rattle.rules.specs.declared.tracking.Previous.{Previous}
-use Rattle.rules.specs.declared.tracking.Previous.the-variants.{Nothing, Frame}
+use Rattle.rules.specs.declared.sensors.Reading.{Reading}
+use Rattle.rules.specs.declared.session.Previous.{Previous}
+use Rattle.rules.specs.declared.session.Previous.the-variants.{Nothing, Frame}
 use Rattle.rules.specs.Quantities.{mA, mAms, elapsed}
 use Rattle.rules.specs.Test.{plausible, currentInRange, inRange, all}
 use Rattle.rules.specs.Trips.{Measured, time}
-use Rattle.rules.specs.Accounts.{positivePart, negativePart, positiveTimes, negativeTimes, joins}
+use Rattle.rules.specs.Accounts.{positivePart, negativePart, positiveTimes, negativeTimes, increment}
 use Rattle.rules.specs.Soundness.{accountLimit}
 use Rattle.step.specs.Charge.{flowed}
 use Rattle.step.proofs.Bools.{and-iff}
@@ -29,7 +28,7 @@ previousOf [] = Nothing
 previousOf (m ∷ taken) = cond (plausible (m .reading)) (Frame (m .at) (m .reading .current)) Nothing
 
 pub flowed-is : (part : Milliamperes → Milliseconds → Charge) (taken : List Measured) (t : Milliseconds) (r : Reading)
-    → flowed part (previousOf taken) (plausible r) t ≡ joins part taken (record { at = t; reading = r })
+    → flowed part (previousOf taken) (plausible r) t ≡ increment part taken (record { at = t; reading = r })
 flowed-is part [] t r = refl
 flowed-is part (m ∷ taken) t r = go (plausible (m .reading)) (plausible r)
   where
@@ -72,10 +71,10 @@ abbrev pub accountTime : ℕ → List Measured → ℕ
 accountTime last [] = last
 accountTime last (m ∷ taken) = time m
 
-pub joins-bounded : (part : Milliamperes → Milliseconds → Charge) → Bounded part → (taken : List Measured) (now : Measured) (last account : ℕ)
-    → accountTime last taken ≤ time now → account ≤ 2_000_000 * accountTime last taken → account + joins part taken now .0 ≤ 2_000_000 * time now
-joins-bounded part b [] now last account h k = omega (arith)
-joins-bounded part b (m ∷ taken) now last account h k = go (plausible (m .reading)) refl (plausible (now .reading))
+pub increment-bounded : (part : Milliamperes → Milliseconds → Charge) → Bounded part → (taken : List Measured) (now : Measured) (last account : ℕ)
+    → accountTime last taken ≤ time now → account ≤ 2_000_000 * accountTime last taken → account + increment part taken now .0 ≤ 2_000_000 * time now
+increment-bounded part b [] now last account h k = omega (arith)
+increment-bounded part b (m ∷ taken) now last account h k = go (plausible (m .reading)) refl (plausible (now .reading))
   where
     go : (x : Bool) → plausible (m .reading) ≡ x → (y : Bool)
         → account + cond (x && y) (part (m .reading .current) (elapsed (m .at) (now .at)) .0) 0 ≤ 2_000_000 * time now

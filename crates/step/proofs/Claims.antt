@@ -1,4 +1,4 @@
--- The claims, of the step: instances at the fresh record of what Runs, Closing and Overrides prove of any record. Assumes nothing.
+-- The claims, of the step: instances at the fresh record of what Runs, Closing and Overrides prove of any record.
 use mathlib.Core.Path.{_≡_, refl, sym, ap, subst, _∙_}
 use mathlib.Core.Logic.{_↔_, _≢_}
 use mathlib.Core.Bool.{Bool, true, false, not, cond, _&&_}
@@ -11,7 +11,7 @@ use Rattle.rules.specs.declared.answers.Fresh.{Fresh}
 use Rattle.rules.specs.Quantities.{isType}
 use Rattle.rules.specs.Numbers.{stateNumber, commandNumber, overrideNumber, testNumber, contactorNumber}
 use Rattle.rules.specs.Refusals.{firstOf, freshChecks, CallAnswer.unsound}
-use Rattle.rules.specs.Protections.{protection}
+use Rattle.rules.specs.Protections.{rowOf}
 use Rattle.rules.specs.Ledger.{ledger, atFirst, accepted, isTrippedOn}
 use Rattle.rules.specs.Stores.{longTerm, shortTerm}
 use Rattle.rules.specs.Contactor.{Closed, ContactorsDiffer}
@@ -51,9 +51,9 @@ module _ (battery : ℕ) (type : T (isType battery)) (calls : List Event) where
   same-type : last .live .battery ≡ battery
   same-type = battery-run (freshRecord battery) calls
 
-  shown-tripped : (number : ℕ) → number < 8 → keptOf last number .tripped ≡ isTrippedOn battery (ledger calls) number
-  shown-tripped number h =
-      shown .watch .protections number h .tripped ∙ ap (λ (b : ℕ). isTrippedOn b (ledger calls) number) same-type
+  shown-tripped : (protection : ℕ) → protection < 8 → keptOf last protection .tripped ≡ isTrippedOn battery (ledger calls) protection
+  shown-tripped protection h =
+      shown .watch .protections protection h .tripped ∙ ap (λ (b : ℕ). isTrippedOn b (ledger calls) protection) same-type
 
   pub after-list : AfterList battery calls (answers (freshRecord battery) calls) last (contactor last)
   after-list = record {
@@ -67,7 +67,7 @@ module _ (battery : ℕ) (type : T (isType battery)) (calls : List Event) where
     test = shown .watch .test;
     failedMask = shown .watch .mask;
     failedCount = shown .watch .failed;
-    tripped = λ number h. rw (shown-tripped number h) (is-tripped (protection battery number) (ledger calls .measured));
+    tripped = λ protection h. rw (shown-tripped protection h) (is-tripped (rowOf battery protection) (ledger calls .measured));
     charged = shown .tally .charged;
     discharged = shown .tally .discharged;
     longTerm = shown .stores .long ∙ ap (λ (b : ℕ). longTerm b (accepted calls)) same-type;
@@ -89,14 +89,14 @@ same-known battery = same-test (known battery) (isType battery) (and-iff (leb 1 
     swap e = (e .1, e .0)
 
 -- what a number gets: its type's fresh record with 0, or that of type 1 with 1
-fresh-of-known : (battery : ℕ) → T (isType battery) → fresh battery ≡ record { number = 0; start = freshRecord battery }
+fresh-of-known : (battery : ℕ) → T (isType battery) → fresh battery ≡ record { refusal = 0; start = freshRecord battery }
 fresh-of-known battery h = rw (same-known battery, is-true (isType battery) .0 h) refl
 
-fresh-is : (battery : ℕ) → fresh battery ≡ record { number = firstOf (freshChecks battery); start = freshRecord (typeOr1 battery) }
+fresh-is : (battery : ℕ) → fresh battery ≡ record { refusal = firstOf (freshChecks battery); start = freshRecord (typeOr1 battery) }
 fresh-is battery = rw (same-known battery) (go (isType battery))
   where
-    go : (b : Bool) → _≡_ {A = Fresh} (cond b (record { number = 0; start = freshRecord battery }) (record { number = 1; start = freshRecord 1 }))
-        (record { number = cond (not b) 1 0; start = freshRecord (cond b battery 1) })
+    go : (b : Bool) → _≡_ {A = Fresh} (cond b (record { refusal = 0; start = freshRecord battery }) (record { refusal = 1; start = freshRecord 1 }))
+        (record { refusal = cond (not b) 1 0; start = freshRecord (cond b battery 1) })
     go true = refl
     go false = refl
 
@@ -109,12 +109,12 @@ known-or-1 battery = go (isType battery) refl
 
 -- the step's fresh records
 abbrev pub StepStarts : Starter
-StepStarts battery given start = _≡_ {A = Fresh} (record { number = given; start = start }) (fresh battery)
+StepStarts battery given start = _≡_ {A = Fresh} (record { refusal = given; start = start }) (fresh battery)
 
 pub of-every-type : OfEveryType StepStarts
 unfolding closes
 of-every-type battery given start starts = record {
-  number = ap (λ (f : Fresh). f .number) (starts ∙ fresh-is battery);
+  refusal = ap (λ (f : Fresh). f .refusal) (starts ∙ fresh-is battery);
   empty = rw same (after-list (typeOr1 battery) (known-or-1 battery) []);
   ofItsType = rw same (sym (fresh-of-known (typeOr1 battery) (known-or-1 battery)));
   noOther = λ given₁ start₁ starts₁. ap (λ (f : Fresh). f .start) (starts₁ ∙ fresh-of-known (typeOr1 battery) (known-or-1 battery)) ∙ sym same;
@@ -158,15 +158,15 @@ module _ (battery : ℕ) (type : T (isType battery)) (calls₁ calls₂ : List E
     ledgerAnswers₂ = second .answered;
     state = ap (λ (x : Record). stateNumber (x .live .control .state)) same-but;
     command = ap (λ (x : Record). commandNumber (x .live .control .command)) same-but;
-    tripped = λ number h. ap (λ (x : Record). keptOf x number .tripped) same-but;
+    tripped = λ protection h. ap (λ (x : Record). keptOf x protection .tripped) same-but;
     test = ap (λ (x : Record). testNumber (x .live .watch .test)) same-but;
     failedMask = ap (λ (x : Record). x .live .watch .mask) same-but;
     failedCount = ap (λ (x : Record). x .live .watch .failed) same-but;
     charged = ap (λ (x : Record). x .live .tally .charged) same-but;
     discharged = ap (λ (x : Record). x .live .tally .discharged) same-but;
     commands = ap (λ (x : Record). x .live .tally .commands) same-but;
-    longTerm = ap (λ (x : Record). longEntries (x .stores .faults)) same-but;
-    shortTerm = ap (λ (x : Record). shortEntries (x .stores .recent)) same-but;
+    longTerm = ap (λ (x : Record). longEntries (x .stores .long)) same-but;
+    shortTerm = ap (λ (x : Record). shortEntries (x .stores .short)) same-but;
     laidDown₁ = first;
     laidDown₂ = second;
     contactorsDiffer = subst (λ (b : ℕ). (contactorNumber (contactor r) ≢ contactorNumber (contactor q)) ↔ ContactorsDiffer b (ledger calls₁) (ledger calls₂))
@@ -183,10 +183,10 @@ any-two-lists battery calls₁ calls₂ alike given₁ given₂ after₁ after�
 -- ---- one call, on any record
 
 abbrev pub StepCalls : Record → Event → ℕ → Record → Type 0
-StepCalls before e given after = (given ≡ call before e .number) × (after ≡ call before e .after)
+StepCalls before e given after = (given ≡ call before e .refusal) × (after ≡ call before e .after)
 
 module _ (before : Record) (e : Event) where
-  number-of : (n : ℕ) → answer n (advance before e) before .number ≡ n
+  number-of : (n : ℕ) → answer n (advance before e) before .refusal ≡ n
   number-of zero = refl
   number-of (suc n) = refl
 
@@ -209,7 +209,7 @@ module _ (before : Record) (e : Event) where
     unchanged = λ h. refl;
   }
 
-  pub refused : Refused before e (call before e .number) (call before e .after)
+  pub refused : Refused before e (call before e .refusal) (call before e .after)
   refused = rw (number-of (refusal before e)) (of-sound (sound before) refl)
 
 pub on-every-record : OnEveryRecord StepCalls

@@ -1,4 +1,4 @@
--- The contactor of a record is closed exactly when the rule on the ledger that it shows says so. Assumes nothing.
+-- The contactor of a record is closed exactly when the rule on the ledger that it shows says so.
 use mathlib.Core.Path.{_≡_, refl, sym, subst, _∙_}
 use mathlib.Core.Logic.{_↔_, _⊎_, inl, inr, _≢_}
 use mathlib.Core.Bool.{Bool, true, false, not, cond, _&&_, _||_, true≢false, false≢true}
@@ -9,11 +9,11 @@ use lib.Dec.{T}
 use Rattle.rules.specs.declared.states.TestResult.{TestResult}
 use Rattle.rules.specs.declared.states.TestResult.the-variants.{NotRun, Passed, Failed}
 use Rattle.rules.specs.declared.states.Contactor.the-variants.{Open as IsOpen, Closed as IsClosed}
-use Rattle.rules.specs.declared.tracking.ProtectionState.{ProtectionState}
+use Rattle.rules.specs.declared.session.ProtectionState.{ProtectionState}
 use Rattle.rules.specs.declared.battery.Live.{Live}
 use Rattle.rules.specs.declared.battery.Record.{Record}
 use Rattle.rules.specs.Numbers.{testNumber, contactorNumber}
-use Rattle.rules.specs.Protections.{protection}
+use Rattle.rules.specs.Protections.{rowOf}
 use Rattle.rules.specs.Ledger.{Ledger, TrippedOn, isTrippedOn, Accepted}
 use Rattle.rules.specs.Contactor.{PermitsClosing, InForce, AllLiftable, NoneTripped, SomeTripped, Closed, ContactorsDiffer, stateAndCommand}
 use Rattle.rules.proofs.Decide.{is-tripped}
@@ -40,23 +40,23 @@ lift-is true o f = (λ h t. and-iff o f .0 h, λ g. and-iff o f .1 (g tt))
 module _ (battery : ℕ) (states : List ProtectionState) (l : Ledger)
     (shown : (i : ℕ) → i < 8 → at states i .tripped ≡ isTrippedOn battery l i) where
   tripped-is : (i : ℕ) → i < 8 → T (at states i .tripped) ↔ TrippedOn battery l i
-  tripped-is i h = rw (shown i h) (is-tripped (protection battery i) (l .measured))
+  tripped-is i h = rw (shown i h) (is-tripped (rowOf battery i) (l .measured))
 
   -- each tripped protection is liftable with override in force
   abbrev EachLifted : Bool → Type 0
-  EachLifted overriding = (i : ℕ) → i < 8 → TrippedOn battery l i → T overriding × T (protection battery i .liftable)
+  EachLifted overriding = (i : ℕ) → i < 8 → TrippedOn battery l i → T overriding × T (rowOf battery i .liftable)
 
   lifted-is : (overriding : Bool) → T (lifted battery overriding states) ↔ EachLifted overriding
   lifted-is overriding = (to, from)
     where
-      every : T (lifted battery overriding states) ↔ ((i : ℕ) → i < 8 → T (not (at states i .tripped) || (overriding && protection battery i .liftable)))
-      every = all-places 8 (λ i. not (at states i .tripped) || (overriding && protection battery i .liftable))
+      every : T (lifted battery overriding states) ↔ ((i : ℕ) → i < 8 → T (not (at states i .tripped) || (overriding && rowOf battery i .liftable)))
+      every = all-places 8 (λ i. not (at states i .tripped) || (overriding && rowOf battery i .liftable))
 
       to : T (lifted battery overriding states) → EachLifted overriding
-      to h i k t = lift-is (at states i .tripped) overriding (protection battery i .liftable) .0 (every .0 h i k) (tripped-is i k .1 t)
+      to h i k t = lift-is (at states i .tripped) overriding (rowOf battery i .liftable) .0 (every .0 h i k) (tripped-is i k .1 t)
 
       from : EachLifted overriding → T (lifted battery overriding states)
-      from f = every .1 (λ i k. lift-is (at states i .tripped) overriding (protection battery i .liftable) .1 (λ t. f i k (tripped-is i k .0 t)))
+      from f = every .1 (λ i k. lift-is (at states i .tripped) overriding (rowOf battery i .liftable) .1 (λ t. f i k (tripped-is i k .0 t)))
 
   -- in the paper's words
   rule-is : EachLifted (l .override) ↔ ((AllLiftable battery l × InForce l) ⊎ NoneTripped battery l)
@@ -75,7 +75,7 @@ module _ (battery : ℕ) (states : List ProtectionState) (l : Ledger)
   lifts-more = (to (lifted battery true states) refl (lifted battery false states) refl, from)
     where
       clear : (i : ℕ) → Bool
-      clear i = not (at states i .tripped) || (false && protection battery i .liftable)
+      clear i = not (at states i .tripped) || (false && rowOf battery i .liftable)
 
       was-tripped : (t f : Bool) → (not t || (false && f)) ≡ false → T t
       was-tripped true f e = tt
@@ -90,7 +90,7 @@ module _ (battery : ℕ) (states : List ProtectionState) (l : Ledger)
       to true e false f n =
           let found = some-place 8 clear f in
           let i = found .0 in (
-            (i, found .1, tripped-is i (found .1) .0 (was-tripped (at states i .tripped) (protection battery i .liftable) (found .2))),
+            (i, found .1, tripped-is i (found .1) .0 (was-tripped (at states i .tripped) (rowOf battery i .liftable) (found .2))),
             λ i k t. lifted-is true .0 (subst T (sym e) tt) i k t .1,
           )
 

@@ -1,4 +1,4 @@
--- Laws of lists: what stands in the first places, and keeping the first or the last n. Assumes nothing.
+-- Laws of lists: what stands in the first places, and keeping the first or the last n.
 use mathlib.Core.Path.{_≡_, refl, sym, ap, ap₂, _∙_}
 use mathlib.Core.List.{List, [], _∷_, _++_}
 use Prim.Native.Nat.{ℕ, zero, suc, _+_, _-_, _≤_, _<_}

@@ -1,5 +1,4 @@
 -- Records that are equal but for override stay so through every call, and answer alike, whatever the on or off values of override calls.
--- Assumes nothing.
 use mathlib.Core.Path.{_≡_, refl, sym, ap, ap₂, _∙_}
 use mathlib.Core.Bool.{Bool, false}
 use mathlib.Core.List.{List, _∷_}
@@ -61,9 +60,9 @@ erase-answer : (n : ℕ) (a b r q : Record) → erase a ≡ erase b → erase r 
 erase-answer zero a b r q h k = h
 erase-answer (suc n) a b r q h k = k
 
-number-answer : (n : ℕ) (a b r q : Record) → answer n a r .number ≡ answer n b q .number
-number-answer zero a b r q = refl
-number-answer (suc n) a b r q = refl
+answer-refusal : (n : ℕ) (a b r q : Record) → answer n a r .refusal ≡ answer n b q .refusal
+answer-refusal zero a b r q = refl
+answer-refusal (suc n) a b r q = refl
 
 -- refusal doesn't look at override
 refusal-erase : (r : Record) (e : Event) → refusal r e ≡ refusal (erase r) e
@@ -75,14 +74,14 @@ refusal-erase r e = refl
 after-erase : (r : Record) (e : Event) → erase (call r e .after) ≡ erase (call (erase r) e .after)
 after-erase r e = rw (← refusal-erase r e) (erase-answer (refusal r e) (advance r e) (advance (erase r) e) r (erase r) (erase-advance r e) refl)
 
-number-erase : (r : Record) (e : Event) → call r e .number ≡ call (erase r) e .number
-number-erase r e = rw (← refusal-erase r e) (number-answer (refusal r e) (advance r e) (advance (erase r) e) r (erase r))
+answer-erase : (r : Record) (e : Event) → call r e .refusal ≡ call (erase r) e .refusal
+answer-erase r e = rw (← refusal-erase r e) (answer-refusal (refusal r e) (advance r e) (advance (erase r) e) r (erase r))
 
 pub after-same : (r q : Record) (e : Event) → erase r ≡ erase q → erase (call r e .after) ≡ erase (call q e .after)
 after-same r q e h = after-erase r e ∙ ap (λ (x : Record). erase (call x e .after)) h ∙ sym (after-erase q e)
 
-pub number-same : (r q : Record) (e : Event) → erase r ≡ erase q → call r e .number ≡ call q e .number
-number-same r q e h = number-erase r e ∙ ap (λ (x : Record). call x e .number) h ∙ sym (number-erase q e)
+pub answer-same : (r q : Record) (e : Event) → erase r ≡ erase q → call r e .refusal ≡ call q e .refusal
+answer-same r q e h = answer-erase r e ∙ ap (λ (x : Record). call x e .refusal) h ∙ sym (answer-erase q e)
 
 -- ---- an override call with either value, on one record
 
@@ -94,9 +93,9 @@ after-switch : (r : Record) (t : Milliseconds) (x y : Bool) → erase (call r (B
 after-switch r t x y = rw (refusal-switch r t x y)
     (erase-answer (refusal r (BattleOverride t y)) (advance r (BattleOverride t x)) (advance r (BattleOverride t y)) r r refl refl)
 
-number-switch : (r : Record) (t : Milliseconds) (x y : Bool) → call r (BattleOverride t x) .number ≡ call r (BattleOverride t y) .number
-number-switch r t x y = rw (refusal-switch r t x y)
-    (number-answer (refusal r (BattleOverride t y)) (advance r (BattleOverride t x)) (advance r (BattleOverride t y)) r r)
+answer-switch : (r : Record) (t : Milliseconds) (x y : Bool) → call r (BattleOverride t x) .refusal ≡ call r (BattleOverride t y) .refusal
+answer-switch r t x y = rw (refusal-switch r t x y)
+    (answer-refusal (refusal r (BattleOverride t y)) (advance r (BattleOverride t x)) (advance r (BattleOverride t y)) r r)
 
 -- ---- two lists alike, from two records equal but for override
 
@@ -109,7 +108,7 @@ alike-run r q (switched t x y l) h =
 pub alike-answers : {a b : List Event} (r q : Record) → Alike a b → erase r ≡ erase q → answers r a ≡ answers q b
 alike-answers r q none h = refl
 alike-answers r q (same e l) h =
-    ap₂ _∷_ (number-same r q e h) (alike-answers (call r e .after) (call q e .after) l (after-same r q e h))
+    ap₂ _∷_ (answer-same r q e h) (alike-answers (call r e .after) (call q e .after) l (after-same r q e h))
 alike-answers r q (switched t x y l) h =
-    ap₂ _∷_ (number-same r q (BattleOverride t x) h ∙ number-switch q t x y)
+    ap₂ _∷_ (answer-same r q (BattleOverride t x) h ∙ answer-switch q t x y)
     (alike-answers (call r (BattleOverride t x) .after) (call q (BattleOverride t y) .after) l (after-same r q (BattleOverride t x) h ∙ after-switch q t x y))

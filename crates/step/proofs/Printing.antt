@@ -1,4 +1,4 @@
--- A run of the step prints the text that the rules give. Assumes nothing.
+-- A run of the step prints the text that the rules give.
 use mathlib.Core.Path.{_≡_, refl, sym, ap, ap₂, _∙_}
 use mathlib.Core.Logic.{_↔_}
 use mathlib.Core.Bool.{Bool, true, false, cond}
@@ -28,7 +28,7 @@ use Rattle.step.specs.Print.{trippedOf, liveLine, printed, endOf, lastOf
 use Rattle.step.proofs.Lists.{length-first}
 use Rattle.step.proofs.Shows.{Shows, shows-fresh}
 use Rattle.step.proofs.Closing.{closed-is}
-use Rattle.step.proofs.Runs.{shows-call, shows-run, number-is, battery-run}
+use Rattle.step.proofs.Runs.{shows-call, shows-run, refusal-is, battery-run}
 use Rattle.step.proofs.Claims.{same-known}
 use Rattle.step.proofs.Bools.{is-true}
 
@@ -46,49 +46,49 @@ mask-same (suc n) f g h = rw (mask-same n f g (λ k below. h k (omega (arith, be
 
 -- what the rules print of a ledger
 abbrev ledgerLine : ℕ → ℕ → ℕ → Ledger → List ℕ
-ledgerLine battery number refusal l =
-    eventLine number refusal (stateNumber (l .state)) (cond (isClosed battery l) 1 0) (trippedMaskOn battery l) (overrideNumber (l .override)) (testOf (l .measured))
+ledgerLine battery count refusal l =
+    eventLine count refusal (stateNumber (l .state)) (cond (isClosed battery l) 1 0) (trippedMaskOn battery l) (overrideNumber (l .override)) (testOf (l .measured))
 
 module _ (r : Record) (l : Ledger) (past : List Accepted) (k : Shows r l past) where
   tripped-same : trippedOf (r .live) ≡ trippedMaskOn (r .live .battery) l
   unfolding trippedOf
-  tripped-same = mask-same 8 _ (isTrippedOn (r .live .battery) l) (λ number h. k .watch .protections number h .tripped)
+  tripped-same = mask-same 8 _ (isTrippedOn (r .live .battery) l) (λ count h. k .watch .protections count h .tripped)
 
   closed-same : contactorNumber (contactor r) ≡ cond (isClosed (r .live .battery) l) 1 0
   closed-same = contactor-digit (contactor r) (isClosed (r .live .battery) l) (closed-is r l past k) (is-closed (r .live .battery) l)
 
   -- the line of a record that shows a ledger
-  pub line-shown : (number refusal : ℕ) → liveLine number refusal (r .live) ≡ ledgerLine (r .live .battery) number refusal l
+  pub line-shown : (count refusal : ℕ) → liveLine count refusal (r .live) ≡ ledgerLine (r .live .battery) count refusal l
   unfolding liveLine
-  line-shown number refusal =
+  line-shown count refusal =
       rw (closed-same, tripped-same, k .control .state, k .control .override, k .watch .test) refl
 
   pub end-shown : endOf r ≡ endLine (charged past .0) (discharged past .0) (length (longTerm (r .live .battery) past))
   unfolding longEntries
-  end-shown = rw (k .tally .charged, k .tally .discharged, sym (k .stores .long), length-first (r .stores .faults .count) (longEntry (r .stores .faults))) refl
+  end-shown = rw (k .tally .charged, k .tally .discharged, sym (k .stores .long), length-first (r .stores .long .count) (longEntry (r .stores .long))) refl
 
 -- ---- the lines of a list of calls, and the last line
 
-pub call-line-shown : (r : Record) (l : Ledger) (past : List Accepted) → Shows r l past → (number : ℕ) (e : Event)
-    → liveLine number (call r e .number) (call r e .after .live) ≡ callLine (r .live .battery) number l e
-call-line-shown r l past k number e =
-    line-shown (call r e .after) (enter l e) _ (shows-call r l past k e) number (call r e .number)
-    ∙ ap₂ (λ (b n : ℕ). ledgerLine b number n (enter l e)) (battery-run r (e ∷ [])) (number-is r l past k e)
+pub call-line-shown : (r : Record) (l : Ledger) (past : List Accepted) → Shows r l past → (count : ℕ) (e : Event)
+    → liveLine count (call r e .refusal) (call r e .after .live) ≡ callLine (r .live .battery) count l e
+call-line-shown r l past k count e =
+    line-shown (call r e .after) (enter l e) _ (shows-call r l past k e) count (call r e .refusal)
+    ∙ ap₂ (λ (b n : ℕ). ledgerLine b count n (enter l e)) (battery-run r (e ∷ [])) (refusal-is r l past k e)
 
-pub lines-shown : (battery : ℕ) (r : Record) (l : Ledger) (past : List Accepted) → Shows r l past → r .live .battery ≡ battery → (number : ℕ) (es : List Event)
-    → printed number r es ≡ callLines battery number l es
-lines-shown battery r l past k same number [] = refl
-lines-shown battery r l past k same number (e ∷ es) =
+pub lines-shown : (battery : ℕ) (r : Record) (l : Ledger) (past : List Accepted) → Shows r l past → r .live .battery ≡ battery → (count : ℕ) (es : List Event)
+    → printed count r es ≡ callLines battery count l es
+lines-shown battery r l past k same count [] = refl
+lines-shown battery r l past k same count (e ∷ es) =
     ap₂ _++_
-    (call-line-shown r l past k number e ∙ ap (λ (b : ℕ). callLine b number l e) same)
-    (lines-shown battery (call r e .after) (enter l e) _ (shows-call r l past k e) (battery-run r (e ∷ []) ∙ same) (number + 1) es)
+    (call-line-shown r l past k count e ∙ ap (λ (b : ℕ). callLine b count l e) same)
+    (lines-shown battery (call r e .after) (enter l e) _ (shows-call r l past k e) (battery-run r (e ∷ []) ∙ same) (count + 1) es)
 
 last-shown : (battery : ℕ) → T (isType battery) → (calls : List Event) (ending : Ending)
     → lastOf (run (freshRecord battery) calls) ending ≡ lastLine battery calls ending
 last-shown battery type calls atEnd =
     end-shown (run (freshRecord battery) calls) _ (accepted calls) (shows-run (freshRecord battery) atFirst [] calls (shows-fresh battery type))
     ∙ ap (λ (b : ℕ). endLine (charged (accepted calls) .0) (discharged (accepted calls) .0) (length (longTerm b (accepted calls)))) (battery-run (freshRecord battery) calls)
-last-shown battery type calls (stopped number position) = refl
+last-shown battery type calls (stopped refusal position) = refl
 
 -- ---- a whole input
 

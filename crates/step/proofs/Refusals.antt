@@ -1,4 +1,4 @@
--- What the table of the rules can answer, and what an accepted call's time is. Assumes nothing.
+-- What the table of the rules can answer, and what an accepted call's time is.
 use mathlib.Core.Path.{_≡_, refl}
 use mathlib.Core.Bool.{Bool, true, false, cond}
 use Prim.Native.Nat.{ℕ, _≤_}
@@ -8,7 +8,7 @@ use Rattle.rules.specs.declared.states.State.{State}
 use Rattle.rules.specs.declared.calls.Event.{Event}
 use Rattle.rules.specs.Quantities.{_<ms_, missionTime}
 use Rattle.rules.specs.Calls.{timeOf}
-use Rattle.rules.specs.Refusals.{CallAnswer, misplaced, requestBarred, otherBarred}
+use Rattle.rules.specs.Refusals.{CallAnswer, isWrongPower, isForbiddenRequest, isForbiddenOther}
 use Rattle.rules.specs.Refusals.{refusal as refusalByTable}
 use Rattle.rules.specs.Refusals.{CallAnswer.accepted, CallAnswer.timeBelowLast, CallAnswer.timeAboveMission, CallAnswer.wrongPower, CallAnswer.requestNotAllowed, CallAnswer.otherNotAllowed}
 
@@ -24,7 +24,7 @@ first-listed false false false false false = accepted
 pub table-listed : (s : State) (last : _) (n : ℕ) (e : Event) → CallAnswer (refusalByTable s last n e)
 unfolding refusalByTable
 table-listed s last n e =
-    first-listed (timeOf e <ms last) (missionTime <ms timeOf e) (misplaced s e) (requestBarred s e) (otherBarred s n e)
+    first-listed (timeOf e <ms last) (missionTime <ms timeOf e) (isWrongPower s e) (isForbiddenRequest s e) (isForbiddenOther s n e)
 
 -- and never 5
 first-not-5 : (a b c d f : Bool) → _≡_ {A = ℕ} (cond a 6 (cond b 7 (cond c 8 (cond d 9 (cond f 10 0))))) 5 → ⊥
@@ -38,7 +38,7 @@ first-not-5 false false false false false h = omega arith
 pub table-not-5 : (s : State) (last : _) (n : ℕ) (e : Event) → refusalByTable s last n e ≡ 5 → ⊥
 unfolding refusalByTable
 table-not-5 s last n e =
-    first-not-5 (timeOf e <ms last) (missionTime <ms timeOf e) (misplaced s e) (requestBarred s e) (otherBarred s n e)
+    first-not-5 (timeOf e <ms last) (missionTime <ms timeOf e) (isWrongPower s e) (isForbiddenRequest s e) (isForbiddenOther s n e)
 
 -- what an accepted call's time is
 pub record InTime (last t : ℕ) : Type 0 where

@@ -1,4 +1,4 @@
--- From a record that shows a ledger, every list of calls: the answers, and the record that is left. Assumes nothing.
+-- From a record that shows a ledger, every list of calls: the answers, and the record that is left.
 use mathlib.Core.Path.{_≡_, refl, sym, ap, ap₂, subst, _∙_}
 use mathlib.Core.Bool.{Bool, true, false, cond}
 use mathlib.Core.List.{List, [], _∷_, _++_}
@@ -6,14 +6,14 @@ use Prim.Native.Nat.{ℕ, zero, suc, _≤_, _<_}
 use native.Mathlib.Omega.{arith}
 use lib.Dec.{T}
 use Rattle.rules.specs.declared.units.Milliseconds.{Milliseconds}
-use Rattle.rules.specs.declared.tracking.Previous.the-variants.{Nothing, Frame}
+use Rattle.rules.specs.declared.session.Previous.the-variants.{Nothing, Frame}
 use Rattle.rules.specs.declared.states.State.{State}
 use Rattle.rules.specs.declared.calls.Event.{Event}
 use Rattle.rules.specs.declared.calls.Event.the-variants.{Measurement, PowerOn, PowerLoss, ContactorCommand, StateRequest, BattleOverride, ClearLongTerm}
 use Rattle.rules.specs.declared.battery.Record.{Record}
 use Rattle.rules.specs.Refusals.{refusal as refusalByTable}
 use Rattle.rules.specs.Test.{plausible}
-use Rattle.rules.specs.Protections.{protection}
+use Rattle.rules.specs.Protections.{rowOf}
 use Rattle.rules.specs.Trips.{Measured}
 use Rattle.rules.specs.Ledger.{Ledger, refused, accept, ifAccepted, enter, ledgerFrom, refusalsFrom, Accepted, entered, acceptedFrom, failedMaskOf}
 use Rattle.rules.specs.Soundness.{Sound, MeasuredBy, KeptInRange}
@@ -57,13 +57,13 @@ shows-sound r l past k = record {
   lastTime = rw (k .last) (k .timed .mission);
   longCount = k .stores .fits .long .count;
   shortCount = k .stores .fits .short .count;
-  longNumbers = k .stores .fits .long .numbers;
-  shortNumbers = k .stores .fits .short .numbers;
+  longProtections = k .stores .fits .long .numbers;
+  shortProtections = k .stores .fits .short .numbers;
   mask = rw (k .watch .mask) (mask-by (l .measured));
   charged = rw (k .last) (omega (arith, k .tally .chargedBy, bound));
   discharged = rw (k .last) (omega (arith, k .tally .dischargedBy, bound));
-  spans = λ number h. rw (k .last)
-      (tracks-by (protection (r .live .battery) number) (at (r .live .watch .protections) number) (l .measured) (l .last) (k .timed .by) (k .watch .protections number h));
+  spans = λ protection h. rw (k .last)
+      (tracks-by (rowOf (r .live .battery) protection) (at (r .live .watch .protections) protection) (l .measured) (l .last) (k .timed .by) (k .watch .protections protection h));
   previous = rw (k .last, k .watch .previous) (previous-by (l .last) (l .measured) (k .timed .by));
   current = rw (k .watch .previous) (previous-kept (l .measured));
 }
@@ -89,10 +89,10 @@ module _ (r : Record) (l : Ledger) (past : List Accepted) (k : Shows r l past) w
       go zero z = rw (same-refusal e, z) (accepted r l past k e (in-time (l .state) (l .last) (l .commands) e z))
       go (suc n) z = rw (same-refusal e, z) k
 
-  pub number-is : (e : Event) → call r e .number ≡ refused l e
-  number-is e = go (refusal r e) (same-refusal e)
+  pub refusal-is : (e : Event) → call r e .refusal ≡ refused l e
+  refusal-is e = go (refusal r e) (same-refusal e)
     where
-      go : (n : ℕ) → n ≡ refused l e → answer n (advance r e) r .number ≡ refused l e
+      go : (n : ℕ) → n ≡ refused l e → answer n (advance r e) r .refusal ≡ refused l e
       go zero z = z
       go (suc n) z = z
 
@@ -105,7 +105,7 @@ shows-run r l past (e ∷ es) k = shows-run (call r e .after) (enter l e) _ es (
 pub answers-are : (r : Record) (l : Ledger) (past : List Accepted) (es : List Event) → Shows r l past → answers r es ≡ refusalsFrom l es
 answers-are r l past [] k = refl
 answers-are r l past (e ∷ es) k =
-    ap₂ _∷_ (number-is r l past k e) (answers-are (call r e .after) (enter l e) _ es (shows-call r l past k e))
+    ap₂ _∷_ (refusal-is r l past k e) (answers-are (call r e .after) (enter l e) _ es (shows-call r l past k e))
 
 -- ---- the type stays
 
@@ -136,4 +136,4 @@ run-append r (e ∷ a) b = run-append (call r e .after) a b
 
 pub answers-append : (r : Record) (a b : List Event) → answers r (a ++ b) ≡ answers r a ++ answers (run r a) b
 answers-append r [] b = refl
-answers-append r (e ∷ a) b = ap (λ (ns : List ℕ). call r e .number ∷ ns) (answers-append (call r e .after) a b)
+answers-append r (e ∷ a) b = ap (λ (ns : List ℕ). call r e .refusal ∷ ns) (answers-append (call r e .after) a b)

@@ -1,24 +1,24 @@
--- The record shows the ledger: this is kept by every call, from any record and ledger that have it. Assumes nothing.
+-- The record shows the ledger: this is kept by every call, from any record and ledger that have it.
 use mathlib.Core.Path.{_≡_, refl, sym, subst}
 use mathlib.Core.List.{List, []}
 use Prim.Native.Nat.{ℕ, _*_, _≤_, _<_}
 use native.Mathlib.Nat.{not-suc-le-zero}
 use native.Mathlib.Omega.{arith}
 use lib.Dec.{T}
-use Rattle.rules.specs.declared.tracking.Watch.{Watch}
+use Rattle.rules.specs.declared.session.Watch.{Watch}
 use Rattle.rules.specs.declared.stores.Stores.{Stores}
 use Rattle.rules.specs.declared.battery.Control.{Control}
 use Rattle.rules.specs.declared.battery.Tally.{Tally}
 use Rattle.rules.specs.declared.battery.Record.{Record}
 use Rattle.rules.specs.Quantities.{isType, missionTime}
 use Rattle.rules.specs.Numbers.{testNumber}
-use Rattle.rules.specs.Protections.{protection}
+use Rattle.rules.specs.Protections.{rowOf}
 use Rattle.rules.specs.Trips.{Measured}
 use Rattle.rules.specs.Ledger.{Ledger, atFirst, Accepted, testOf, failedMaskOf, failedCountOf}
 use Rattle.rules.specs.Stores.{longTerm, shortTerm}
 use Rattle.rules.specs.Accounts.{charged, discharged}
 use Rattle.rules.specs.Shown.{longEntries, shortEntries}
-use Rattle.step.specs.Fresh.{noWatch, noFaults, noneRecent, freshRecord}
+use Rattle.step.specs.Fresh.{noWatch, noLongTerm, noShortTerm, freshRecord}
 use Rattle.step.specs.Sound.{at}
 use Rattle.step.proofs.Tracking.{AllBy, Ordered, Tracks, tracks-none}
 use Rattle.step.proofs.Storing.{LongFits, ShortFits}
@@ -37,7 +37,7 @@ pub record ShowsWatch (battery : ℕ) (w : Watch) (taken : List Measured) : Type
   pub mask : w .mask ≡ failedMaskOf taken
   pub failed : w .failed ≡ failedCountOf taken
   pub previous : w .previous ≡ previousOf taken
-  pub protections : (number : ℕ) → number < 8 → Tracks (protection battery number) (at (w .protections) number) taken
+  pub protections : (protection : ℕ) → protection < 8 → Tracks (rowOf battery protection) (at (w .protections) protection) taken
 
 -- an account is at most 2,000,000 × the bound, a time
 pub record ShowsTally (n : Tally) (commands bound : ℕ) (past : List Accepted) : Type 0 where
@@ -48,8 +48,8 @@ pub record ShowsTally (n : Tally) (commands bound : ℕ) (past : List Accepted) 
   pub dischargedBy : n .discharged .0 ≤ 2_000_000 * bound
 
 pub record ShowsStores (battery : ℕ) (s : Stores) (past : List Accepted) : Type 0 where
-  pub long : longEntries (s .faults) ≡ longTerm battery past
-  pub short : shortEntries (s .recent) ≡ shortTerm battery past
+  pub long : longEntries (s .long) ≡ longTerm battery past
+  pub short : shortEntries (s .short) ≡ shortTerm battery past
   pub fits : StoresFit s
 
 -- what the ledger's times are
@@ -75,16 +75,16 @@ watch-none battery = record {
   mask = refl;
   failed = refl;
   previous = refl;
-  protections = λ number h. subst (λ s. Tracks (protection battery number) s []) (sym (all-clear number h)) (tracks-none (protection battery number));
+  protections = λ protection h. subst (λ s. Tracks (rowOf battery protection) s []) (sym (all-clear protection h)) (tracks-none (rowOf battery protection));
 }
   where
-    all-clear : (number : ℕ) → number < 8 → at (noWatch .protections) number ≡ Rattle.step.specs.Fresh.clearState
-    all-clear number h = lib.ListN.getD-replicate 8 number _ _ h
+    all-clear : (protection : ℕ) → protection < 8 → at (noWatch .protections) protection ≡ Rattle.step.specs.Fresh.clearState
+    all-clear protection h = lib.ListN.getD-replicate 8 protection _ _ h
 
-pub long-none : LongFits noFaults
+pub long-none : LongFits noLongTerm
 long-none = record { times = refl; protections = refl; values = refl; count = omega arith; numbers = λ place h. absurd (not-suc-le-zero h) }
 
-pub short-none : ShortFits noneRecent
+pub short-none : ShortFits noShortTerm
 short-none = record { times = refl; protections = refl; values = refl; releases = refl; count = omega arith; numbers = λ place h. absurd (not-suc-le-zero h) }
 
 pub shows-fresh : (battery : ℕ) → T (isType battery) → Shows (freshRecord battery) atFirst []

@@ -1,4 +1,4 @@
--- The step's test of soundness is document 01's list of conditions, no more and no less. Assumes nothing.
+-- The step's test of soundness is document 01's list of conditions, no more and no less.
 use mathlib.Core.Path.{_≡_, refl, sym, subst}
 use mathlib.Core.Logic.{_↔_, _⊎_, inl, inr}
 use mathlib.Core.Bool.{Bool, true, false, _&&_, _||_}
@@ -10,15 +10,15 @@ use borrow.Author.Tests.{eqb-false}
 use lib.Dec.{T, leb, eqb, leb→le, le→leb, ltb→lt, lt→ltb, eqb→eq}
 use lib.ListN.{getD}
 use Rattle.rules.specs.declared.units.Milliseconds.{Milliseconds}
-use Rattle.rules.specs.declared.tracking.Span.{Span}
-use Rattle.rules.specs.declared.tracking.Span.the-variants.{Idle, Beyond, Within}
-use Rattle.rules.specs.declared.tracking.Previous.{Previous}
-use Rattle.rules.specs.declared.tracking.Previous.the-variants.{Nothing, Frame}
+use Rattle.rules.specs.declared.session.Span.{Span}
+use Rattle.rules.specs.declared.session.Span.the-variants.{Idle, Beyond, Within}
+use Rattle.rules.specs.declared.session.Previous.{Previous}
+use Rattle.rules.specs.declared.session.Previous.the-variants.{Nothing, Frame}
 use Rattle.rules.specs.declared.battery.Record.{Record}
 use Rattle.rules.specs.Quantities.{isType}
 use Rattle.rules.specs.Test.{all}
 use Rattle.rules.specs.Shown.{keptOf}
-use Rattle.rules.specs.Soundness.{Sound, StartedBy, MeasuredBy, KeptInRange, NumbersBelow8}
+use Rattle.rules.specs.Soundness.{Sound, StartedBy, MeasuredBy, KeptInRange, ProtectionsBelow8}
 use Rattle.step.specs.Sound.{at, listOf, startedBy, measuredBy, currentKept, below8, liveTests, storesTests, soundLive, soundStores, sound}
 use Rattle.step.proofs.Bools.{and-iff, Each, all-each, all-places}
 
@@ -47,14 +47,14 @@ type-is b = (λ h. to (leb→le 1 b (h .0)) (leb→le b 3 (h .1)), λ h. back (e
 
 -- ---- the counted places of a store
 
-pub below8-is : (n : ℕ) (numbers : List ℕ) → T (below8 n numbers) ↔ NumbersBelow8 n numbers
+pub below8-is : (n : ℕ) (numbers : List ℕ) → T (below8 n numbers) ↔ ProtectionsBelow8 n numbers
 below8-is zero numbers = (λ h place k. absurd (not-suc-le-zero k), λ f. tt)
 below8-is (suc n) numbers = step (below8-is n numbers)
   where
     here : T (below8 n numbers && leb (getD numbers n 0) 7) ↔ (T (below8 n numbers) × T (leb (getD numbers n 0) 7))
     here = and-iff (below8 n numbers) (leb (getD numbers n 0) 7)
 
-    step : T (below8 n numbers) ↔ NumbersBelow8 n numbers → T (below8 (suc n) numbers) ↔ NumbersBelow8 (suc n) numbers
+    step : T (below8 n numbers) ↔ ProtectionsBelow8 n numbers → T (below8 (suc n) numbers) ↔ ProtectionsBelow8 (suc n) numbers
     step rest = (λ h place k. last-or h place (eq-or-lt-of-le (le-of-suc-le-suc k)), λ f. here .1 (rest .1 (λ place k. f place (omega arith)), le→leb _ _ (f n (omega arith))))
       where
         last-or : T (below8 (suc n) numbers) → (place : ℕ) → (place ≡ n) ⊎ (place < n) → getD numbers place 0 ≤ 7
@@ -79,11 +79,11 @@ kept-is (Frame t i) = (λ h. h, λ h. h)
 -- ---- the record
 
 module _ (r : Record) where
-  spans : T (all (listOf 8 (λ number. startedBy (r .live .last) (at (r .live .watch .protections) number .span))))
-      ↔ ((number : ℕ) → number < 8 → StartedBy (r .live .last) (keptOf r number .span))
+  spans : T (all (listOf 8 (λ protection. startedBy (r .live .last) (at (r .live .watch .protections) protection .span))))
+      ↔ ((protection : ℕ) → protection < 8 → StartedBy (r .live .last) (keptOf r protection .span))
   spans =
-      let every = all-places 8 (λ number. startedBy (r .live .last) (at (r .live .watch .protections) number .span)) in
-      (λ h number k. started-is (r .live .last) (keptOf r number .span) .0 (every .0 h number k), λ f. every .1 (λ number k. started-is (r .live .last) (keptOf r number .span) .1 (f number k)))
+      let every = all-places 8 (λ protection. startedBy (r .live .last) (at (r .live .watch .protections) protection .span)) in
+      (λ h protection k. started-is (r .live .last) (keptOf r protection .span) .0 (every .0 h protection k), λ f. every .1 (λ protection k. started-is (r .live .last) (keptOf r protection .span) .1 (f protection k)))
 
   to : Each (liveTests (r .live)) → Each (storesTests (r .stores)) → Sound r
   to (low, (high, (last, (charged, (discharged, (mask, (measured, (current, (spans', _))))))))) (long, (short, (longs, (shorts, _)))) = record {
@@ -91,8 +91,8 @@ module _ (r : Record) where
     lastTime = leb→le _ _ last;
     longCount = leb→le _ _ long;
     shortCount = leb→le _ _ short;
-    longNumbers = below8-is (r .stores .faults .count) (r .stores .faults .protections) .0 longs;
-    shortNumbers = below8-is (r .stores .recent .count) (r .stores .recent .protections) .0 shorts;
+    longProtections = below8-is (r .stores .long .count) (r .stores .long .protections) .0 longs;
+    shortProtections = below8-is (r .stores .short .count) (r .stores .short .protections) .0 shorts;
     mask = ltb→lt _ _ mask;
     charged = leb→le _ _ charged;
     discharged = leb→le _ _ discharged;
@@ -131,7 +131,7 @@ module _ (r : Record) where
 
   stores-from : Sound r → Each (storesTests (r .stores))
   stores-from s =
-      (le→leb _ _ (s .longCount), (le→leb _ _ (s .shortCount), (below8-is (r .stores .faults .count) (r .stores .faults .protections) .1 (s .longNumbers), (below8-is (r .stores .recent .count) (r .stores .recent .protections) .1 (s .shortNumbers), tt))))
+      (le→leb _ _ (s .longCount), (le→leb _ _ (s .shortCount), (below8-is (r .stores .long .count) (r .stores .long .protections) .1 (s .longProtections), (below8-is (r .stores .short .count) (r .stores .short .protections) .1 (s .shortProtections), tt))))
 
   pub sound-is : T (sound r) ↔ Sound r
   unfolding soundLive soundStores

@@ -1,5 +1,5 @@
 -- The tracker of spans is right, for any protection whose beyond and within exclude each other: what is kept of a protection from one
--- measurement to the next is what the rules say of the session's measurements. Assumes nothing.
+-- measurement to the next is what the rules say of the session's measurements.
 use mathlib.Core.Path.{_≡_, refl, sym, ap, subst, _∙_}
 use mathlib.Core.Bool.{Bool, true, false, not, _&&_, _||_}
 use mathlib.Core.List.{List, [], _∷_}
@@ -8,10 +8,10 @@ use Prim.Native.Nat.{ℕ, _-_, _≤_}
 use native.Mathlib.Omega.{arith}
 use lib.Dec.{T, leb, leb→le, le→leb}
 use Rattle.rules.specs.declared.units.Milliseconds.{Milliseconds}
-use Rattle.rules.specs.declared.reading.Reading.{Reading}
-use Rattle.rules.specs.declared.tracking.Span.{Span}
-use Rattle.rules.specs.declared.tracking.Span.the-variants.{Idle, Beyond, Within}
-use Rattle.rules.specs.declared.tracking.ProtectionState.{ProtectionState}
+use Rattle.rules.specs.declared.sensors.Reading.{Reading}
+use Rattle.rules.specs.declared.session.Span.{Span}
+use Rattle.rules.specs.declared.session.Span.the-variants.{Idle, Beyond, Within}
+use Rattle.rules.specs.declared.session.ProtectionState.{ProtectionState}
 use Rattle.rules.specs.Quantities.{_≤ms_, elapsed}
 use Rattle.rules.specs.Soundness.{StartedBy}
 use Rattle.rules.specs.Test.{plausible}

@@ -3,7 +3,7 @@ use Prim.Native.Nat.{ℕ, zero, suc, _+_}
 use mathlib.Core.Bool.{Bool, true, false, not, _&&_}
 use mathlib.Core.List.{List, [], _∷_}
 use Rattle.rules.specs.declared.units.Milliseconds.{Milliseconds}
-use Rattle.rules.specs.declared.reading.Reading.{Reading}
+use Rattle.rules.specs.declared.sensors.Reading.{Reading}
 use Rattle.rules.specs.declared.states.State.{State}
 use Rattle.rules.specs.declared.states.State.the-variants.{Unpowered, Dormant, Operational, Maintenance}
 use Rattle.rules.specs.declared.calls.Command.{Command}
@@ -19,7 +19,7 @@ use Rattle.rules.specs.declared.stores.Stores.{Stores}
 use Rattle.rules.specs.declared.battery.Record.{Record}
 use Rattle.rules.specs.declared.answers.Outcome.{Outcome}
 use Rattle.rules.specs.Test.{plausible}
-use Rattle.step.specs.Fresh.{noWatch, controlIn, noneRecent, noFaults}
+use Rattle.step.specs.Fresh.{noWatch, controlIn, noShortTerm, noLongTerm}
 use Rattle.step.specs.Refusal.{refusal}
 use Rattle.step.specs.Track.{observe}
 use Rattle.step.specs.Push.{pushAll}
@@ -84,12 +84,12 @@ advanceLive (ClearLongTerm t) l = setLive t (l .control) (l .tally) l
 abbrev pub advanceStores : Event → Live → Live → Stores → Stores
 advanceStores (Measurement t r) before after s =
     pushAll (before .battery) t r (before .watch .protections) (after .watch .protections) s
-advanceStores (PowerOn t) before after s = record { recent = noneRecent; faults = s .faults }
-advanceStores (PowerLoss t) before after s = record { recent = noneRecent; faults = s .faults }
+advanceStores (PowerOn t) before after s = record { short = noShortTerm; long = s .long }
+advanceStores (PowerLoss t) before after s = record { short = noShortTerm; long = s .long }
 advanceStores (ContactorCommand t c) before after s = s
 advanceStores (StateRequest t q) before after s = s
 advanceStores (BattleOverride t on) before after s = s
-advanceStores (ClearLongTerm t) before after s = record { recent = s .recent; faults = noFaults }
+advanceStores (ClearLongTerm t) before after s = record { short = s .short; long = noLongTerm }
 
 abbrev pub advance : Record → Event → Record
 advance r e = record {
@@ -100,8 +100,8 @@ advance r e = record {
 -- ---- a call and a list of calls
 
 abbrev pub answer : ℕ → Record → Record → Outcome
-answer zero accepted before = record { number = 0; after = accepted }
-answer (suc n) accepted before = record { number = suc n; after = before }
+answer zero accepted before = record { refusal = 0; after = accepted }
+answer (suc n) accepted before = record { refusal = suc n; after = before }
 
 abbrev pub call : Record → Event → Outcome
 call r e = answer (refusal r e) (advance r e) r
@@ -113,4 +113,4 @@ run r (e ∷ es) = run (call r e .after) es
 
 abbrev pub answers : Record → List Event → List ℕ
 answers r [] = []
-answers r (e ∷ es) = call r e .number ∷ answers (call r e .after) es
+answers r (e ∷ es) = call r e .refusal ∷ answers (call r e .after) es

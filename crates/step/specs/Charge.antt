@@ -4,8 +4,8 @@ use mathlib.Core.Bool.{Bool, cond}
 use Rattle.rules.specs.declared.units.Milliamperes.{Milliamperes}
 use Rattle.rules.specs.declared.units.Milliseconds.{Milliseconds}
 use Rattle.rules.specs.declared.units.Charge.{Charge}
-use Rattle.rules.specs.declared.tracking.Previous.{Previous}
-use Rattle.rules.specs.declared.tracking.Previous.the-variants.{Nothing, Frame}
+use Rattle.rules.specs.declared.session.Previous.{Previous}
+use Rattle.rules.specs.declared.session.Previous.the-variants.{Nothing, Frame}
 use Rattle.rules.specs.declared.battery.Tally.{Tally}
 use Rattle.rules.specs.Quantities.{mAms, elapsed}
 use Rattle.rules.specs.Accounts.{positiveTimes, negativeTimes}

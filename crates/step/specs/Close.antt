@@ -6,11 +6,11 @@ use Rattle.rules.specs.declared.states.TestResult.{TestResult}
 use Rattle.rules.specs.declared.states.TestResult.the-variants.{NotRun, Passed, Failed}
 use Rattle.rules.specs.declared.states.Contactor.{Contactor}
 use Rattle.rules.specs.declared.states.Contactor.the-variants.{Open as IsOpen, Closed as IsClosed}
-use Rattle.rules.specs.declared.tracking.ProtectionState.{ProtectionState}
+use Rattle.rules.specs.declared.session.ProtectionState.{ProtectionState}
 use Rattle.rules.specs.declared.battery.Live.{Live}
 use Rattle.rules.specs.declared.battery.Record.{Record}
 use Rattle.rules.specs.Test.{all}
-use Rattle.rules.specs.Protections.{protection}
+use Rattle.rules.specs.Protections.{rowOf}
 use Rattle.rules.specs.Contactor.{stateAndCommand}
 use Rattle.step.specs.Sound.{at, listOf}
 
@@ -22,7 +22,7 @@ hasPassed Failed = false
 -- no protection holds the contactor open: each is clear, or liftable with override on
 abbrev pub lifted : ℕ → Bool → List ProtectionState → Bool
 lifted battery overriding states =
-    all (listOf 8 (λ number. not (at states number .tripped) || (overriding && protection battery number .liftable)))
+    all (listOf 8 (λ protection. not (at states protection .tripped) || (overriding && rowOf battery protection .liftable)))
 
 unfoldable pub closes : Live → Bool
 closes l =

@@ -8,10 +8,10 @@ use Rattle.rules.specs.declared.states.State.{State}
 use Rattle.rules.specs.declared.states.State.the-variants.{Unpowered}
 use Rattle.rules.specs.declared.states.TestResult.the-variants.{NotRun}
 use Rattle.rules.specs.declared.calls.Command.the-variants.{Automated}
-use Rattle.rules.specs.declared.tracking.Span.the-variants.{Idle}
-use Rattle.rules.specs.declared.tracking.Previous.the-variants.{Nothing}
-use Rattle.rules.specs.declared.tracking.ProtectionState.{ProtectionState}
-use Rattle.rules.specs.declared.tracking.Watch.{Watch}
+use Rattle.rules.specs.declared.session.Span.the-variants.{Idle}
+use Rattle.rules.specs.declared.session.Previous.the-variants.{Nothing}
+use Rattle.rules.specs.declared.session.ProtectionState.{ProtectionState}
+use Rattle.rules.specs.declared.session.Watch.{Watch}
 use Rattle.rules.specs.declared.stores.LongTerm.{LongTerm}
 use Rattle.rules.specs.declared.stores.ShortTerm.{ShortTerm}
 use Rattle.rules.specs.declared.battery.Control.{Control}
@@ -28,11 +28,11 @@ noWatch = record { test = NotRun; mask = 0; failed = 0; previous = Nothing; prot
 abbrev pub controlIn : State → Control
 controlIn s = record { state = s; command = Automated; overriding = false }
 
-abbrev pub noFaults : LongTerm
-noFaults = record { times = replicate 64 (record { 0 = 0 }); protections = replicate 64 0; values = replicate 64 (pos 0); count = 0 }
+abbrev pub noLongTerm : LongTerm
+noLongTerm = record { times = replicate 64 (record { 0 = 0 }); protections = replicate 64 0; values = replicate 64 (pos 0); count = 0 }
 
-abbrev pub noneRecent : ShortTerm
-noneRecent = record {
+abbrev pub noShortTerm : ShortTerm
+noShortTerm = record {
   times = replicate 16 (record { 0 = 0 });
   protections = replicate 16 0;
   values = replicate 16 (pos 0);
@@ -46,9 +46,9 @@ noTally = record { commands = 0; charged = record { 0 = 0 }; discharged = record
 abbrev pub freshRecord : ℕ → Record
 freshRecord battery = record {
   live = record { battery = battery; last = record { 0 = 0 }; control = controlIn Unpowered; watch = noWatch; tally = noTally };
-  stores = record { recent = noneRecent; faults = noFaults };
+  stores = record { short = noShortTerm; long = noLongTerm };
 }
 
 -- a number for any other type, beside the fresh record of type 1
 abbrev pub fresh : ℕ → Fresh
-fresh battery = cond (leb 1 battery && leb battery 3) (record { number = 0; start = freshRecord battery }) (record { number = 1; start = freshRecord 1 })
+fresh battery = cond (leb 1 battery && leb battery 3) (record { refusal = 0; start = freshRecord battery }) (record { refusal = 1; start = freshRecord 1 })

@@ -5,12 +5,12 @@ use mathlib.Core.List.{List, [], _∷_}
 use lib.Dec.{leb, ltb}
 use lib.ListN.{getD}
 use Rattle.rules.specs.declared.units.Milliseconds.{Milliseconds}
-use Rattle.rules.specs.declared.tracking.Span.{Span}
-use Rattle.rules.specs.declared.tracking.Span.the-variants.{Idle, Beyond, Within}
-use Rattle.rules.specs.declared.tracking.Previous.{Previous}
-use Rattle.rules.specs.declared.tracking.Previous.the-variants.{Nothing, Frame}
-use Rattle.rules.specs.declared.tracking.ProtectionState.{ProtectionState}
-use Rattle.rules.specs.declared.tracking.Watch.{Watch}
+use Rattle.rules.specs.declared.session.Span.{Span}
+use Rattle.rules.specs.declared.session.Span.the-variants.{Idle, Beyond, Within}
+use Rattle.rules.specs.declared.session.Previous.{Previous}
+use Rattle.rules.specs.declared.session.Previous.the-variants.{Nothing, Frame}
+use Rattle.rules.specs.declared.session.ProtectionState.{ProtectionState}
+use Rattle.rules.specs.declared.session.Watch.{Watch}
 use Rattle.rules.specs.declared.stores.Stores.{Stores}
 use Rattle.rules.specs.declared.battery.Live.{Live}
 use Rattle.rules.specs.declared.battery.Record.{Record}
@@ -21,7 +21,7 @@ use Rattle.step.specs.Fresh.{clearState}
 
 -- what is kept of a protection
 abbrev pub at : List ProtectionState → ℕ → ProtectionState
-at states number = getD states number clearState
+at states protection = getD states protection clearState
 
 -- a list of n, from what stands at each place
 abbrev pub listOf : {A : Type 0} → ℕ → (ℕ → A) → List A
@@ -52,7 +52,7 @@ watchTests last w =
     ltb (w .mask) 8_192
     ∷ measuredBy last (w .previous)
     ∷ currentKept (w .previous)
-    ∷ all (listOf 8 (λ number. startedBy last (at (w .protections) number .span)))
+    ∷ all (listOf 8 (λ protection. startedBy last (at (w .protections) protection .span)))
     ∷ []
 
 abbrev pub liveTests : Live → List Bool
@@ -66,10 +66,10 @@ liveTests l =
 
 abbrev pub storesTests : Stores → List Bool
 storesTests s =
-    leb (s .faults .count) 64
-    ∷ leb (s .recent .count) 16
-    ∷ below8 (s .faults .count) (s .faults .protections)
-    ∷ below8 (s .recent .count) (s .recent .protections)
+    leb (s .long .count) 64
+    ∷ leb (s .short .count) 16
+    ∷ below8 (s .long .count) (s .long .protections)
+    ∷ below8 (s .short .count) (s .short .protections)
     ∷ []
 
 unfoldable pub soundLive : Live → Bool

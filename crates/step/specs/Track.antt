@@ -5,15 +5,15 @@ use mathlib.Core.Bool.{Bool, true, false, not, cond, _&&_, _||_}
 use mathlib.Core.List.{List}
 use lib.Dec.{leb}
 use Rattle.rules.specs.declared.units.Milliseconds.{Milliseconds}
-use Rattle.rules.specs.declared.reading.Reading.{Reading}
+use Rattle.rules.specs.declared.sensors.Reading.{Reading}
 use Rattle.rules.specs.declared.states.TestResult.the-variants.{Passed, Failed}
-use Rattle.rules.specs.declared.tracking.Span.{Span}
-use Rattle.rules.specs.declared.tracking.Span.the-variants.{Idle, Beyond, Within}
-use Rattle.rules.specs.declared.tracking.Previous.the-variants.{Nothing, Frame}
-use Rattle.rules.specs.declared.tracking.ProtectionState.{ProtectionState}
-use Rattle.rules.specs.declared.tracking.Watch.{Watch}
+use Rattle.rules.specs.declared.session.Span.{Span}
+use Rattle.rules.specs.declared.session.Span.the-variants.{Idle, Beyond, Within}
+use Rattle.rules.specs.declared.session.Previous.the-variants.{Nothing, Frame}
+use Rattle.rules.specs.declared.session.ProtectionState.{ProtectionState}
+use Rattle.rules.specs.declared.session.Watch.{Watch}
 use Rattle.rules.specs.Test.{plausible, failedMask, failedCount}
-use Rattle.rules.specs.Protections.{Protection, protection}
+use Rattle.rules.specs.Protections.{Protection, rowOf}
 use Rattle.step.specs.Sound.{at, listOf}
 
 -- ---- one protection
@@ -53,7 +53,7 @@ trackOne p t r s = tracked (plausible r && p .beyond r) (plausible r && p .withi
 -- ---- all of them
 
 unfoldable pub trackAll : ℕ → Milliseconds → Reading → List ProtectionState → List ProtectionState
-trackAll battery t r states = listOf 8 (λ number. trackOne (protection battery number) t r (at states number))
+trackAll battery t r states = listOf 8 (λ protection. trackOne (rowOf battery protection) t r (at states protection))
 
 unfoldable pub observe : ℕ → Milliseconds → Reading → Watch → Watch
 observe battery t r w = record {

@@ -1,12 +1,12 @@
--- A protection that is not tripped, in a within span, is left as it is by a measurement within. Assumes nothing.
+-- A protection that is not tripped, in a within span, is left as it is by a measurement within.
 use mathlib.Core.Path.{_≡_, refl, sym, subst}
 use mathlib.Core.Bool.{Bool, true, false, not, _&&_}
 use lib.Dec.{T, leb}
 use Prim.Native.Nat.{_-_}
 use Rattle.rules.specs.declared.units.Milliseconds.{Milliseconds}
-use Rattle.rules.specs.declared.tracking.Span.{Span}
-use Rattle.rules.specs.declared.tracking.Span.the-variants.{Idle, Beyond, Within}
-use Rattle.rules.specs.declared.tracking.ProtectionState.{ProtectionState}
+use Rattle.rules.specs.declared.session.Span.{Span}
+use Rattle.rules.specs.declared.session.Span.the-variants.{Idle, Beyond, Within}
+use Rattle.rules.specs.declared.session.ProtectionState.{ProtectionState}
 use Rattle.step.specs.Track.{tracked}
 use Rattle.tracking.specs.Spans.{isWithin}
 

@@ -1,7 +1,7 @@
 -- Which spans are within spans.
 use mathlib.Core.Bool.{Bool, true, false}
-use Rattle.rules.specs.declared.tracking.Span.{Span}
-use Rattle.rules.specs.declared.tracking.Span.the-variants.{Idle, Beyond, Within}
+use Rattle.rules.specs.declared.session.Span.{Span}
+use Rattle.rules.specs.declared.session.Span.the-variants.{Idle, Beyond, Within}
 
 abbrev pub isWithin : Span → Bool
 isWithin Idle = false

@@ -3,8 +3,8 @@ ghost use mathlib.Core.Path.{_≡_};
 ghost use Rattle.rules.specs.Quantities.{elapsed as elapsedOf};
 ghost use Rattle.step.specs.Track.{beyondSince, withinSince, spanAt, trippedAt, tracked};
 ghost use Rattle.tracking.specs.Spans.{isWithin};
-use rules::tracking::ProtectionState;
-use rules::tracking::Span;
+use rules::session::ProtectionState;
+use rules::session::Span;
 use rules::units::Milliseconds;
 
 fn beyond_since(t: Milliseconds, span: Span) -> Span

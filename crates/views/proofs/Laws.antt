@@ -1,4 +1,4 @@
--- What is shown of a live part and of a store is what the whole record shows. Assumes nothing.
+-- What is shown of a live part and of a store is what the whole record shows.
 use Prim.Native.Nat.{ℕ, _+_}
 use mathlib.Core.Bool.{Bool, true, false, cond}
 use mathlib.Core.Path.{_≡_, refl, sym}

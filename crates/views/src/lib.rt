@@ -97,16 +97,16 @@ pub fn tripped(l: Live) -> u8
 
 // The number of long-term entries.
 pub fn long_count(s: Stores) -> usize
-    ensures { λ n. ⌜ n ≡ length (longEntries (s .faults)) ⌝ }
+    ensures { λ n. ⌜ n ≡ length (longEntries (s .long)) ⌝ }
 {
-    let faults = s.faults;
-    faults.count
+    let long = s.long;
+    long.count
 }
 
 // The number of short-term entries.
 pub fn short_count(s: Stores) -> usize
-    ensures { λ n. ⌜ n ≡ length (shortEntries (s .recent)) ⌝ }
+    ensures { λ n. ⌜ n ≡ length (shortEntries (s .short)) ⌝ }
 {
-    let recent = s.recent;
-    recent.count
+    let short = s.short;
+    short.count
 }

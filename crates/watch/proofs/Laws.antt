@@ -1,4 +1,4 @@
--- The sides of a measurement give what the table's rows give, and the mask of a plausible one is 0. Assumes nothing.
+-- The sides of a measurement give what the table's rows give, and the mask of a plausible one is 0.
 use mathlib.Core.Path.{_≡_, refl, sym}
 use mathlib.Core.Bool.{Bool, true, false, cond}
 use mathlib.Core.List.{List}
@@ -6,10 +6,10 @@ use Prim.Native.Nat.{ℕ}
 use borrow.Author.Tests.{eqb-true}
 use lib.Dec.{eqb}
 use Rattle.rules.specs.declared.units.Milliseconds.{Milliseconds}
-use Rattle.rules.specs.declared.reading.Reading.{Reading}
-use Rattle.rules.specs.declared.tracking.ProtectionState.{ProtectionState}
+use Rattle.rules.specs.declared.sensors.Reading.{Reading}
+use Rattle.rules.specs.declared.session.ProtectionState.{ProtectionState}
 use Rattle.rules.specs.Test.{plausible, failedMask}
-use Rattle.rules.specs.Protections.{protection}
+use Rattle.rules.specs.Protections.{rowOf}
 use Rattle.step.specs.Track.{trackOne, trackAll}
 use Rattle.reading.proofs.Laws.{plausible-is}
 use Rattle.protection.specs.Rows.{sidesOf}
@@ -17,7 +17,7 @@ use Rattle.watch.specs.Sides.{trackSides}
 
 pub all-are : (battery : ℕ) (t : Milliseconds) (r : Reading) (states : List ProtectionState)
     → trackSides (plausible r) (sidesOf battery r) t states ≡ trackAll battery t r states
-unfolding trackSides trackAll trackOne sidesOf protection
+unfolding trackSides trackAll trackOne sidesOf rowOf
 all-are battery t r states = refl
 
 pub mask-is : (r : Reading) → cond (plausible r) 0 (failedMask r) ≡ failedMask r

@@ -4,17 +4,17 @@ use mathlib.Core.Bool.{Bool, false, _&&_}
 use mathlib.Core.List.{List}
 use lib.ListN.{getD}
 use Rattle.rules.specs.declared.units.Milliseconds.{Milliseconds}
-use Rattle.rules.specs.declared.tracking.ProtectionState.{ProtectionState}
-use Rattle.rules.specs.Protections.{protection}
+use Rattle.rules.specs.declared.session.ProtectionState.{ProtectionState}
+use Rattle.rules.specs.Protections.{rowOf}
 use Rattle.step.specs.Sound.{at, listOf}
 use Rattle.step.specs.Track.{tracked}
 use Rattle.protection.specs.declared.Side.{Side}
 
 -- No hold and no release time depends on the battery type: those of type 1 stand for all.
 abbrev pub trackBy : ℕ → Bool → Side → Milliseconds → ProtectionState → ProtectionState
-trackBy number plausible side t s =
-    tracked (plausible && side .beyond) (plausible && side .within) (protection 1 number .hold) (protection 1 number .release) t s
+trackBy protection plausible side t s =
+    tracked (plausible && side .beyond) (plausible && side .within) (rowOf 1 protection .hold) (rowOf 1 protection .release) t s
 
 unfoldable pub trackSides : Bool → List Side → Milliseconds → List ProtectionState → List ProtectionState
 trackSides plausible sides t states =
-    listOf 8 (λ number. trackBy number plausible (getD sides number (record { beyond = false; within = false })) t (at states number))
+    listOf 8 (λ protection. trackBy protection plausible (getD sides protection (record { beyond = false; within = false })) t (at states protection))

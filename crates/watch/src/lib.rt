@@ -2,30 +2,30 @@
 ghost use mathlib.Core.Path.{_≡_};
 ghost use mathlib.Core.Bool.{cond};
 ghost use Rattle.rules.specs.declared.states.TestResult.the-variants.{Passed, Failed as TestFailed};
-ghost use Rattle.rules.specs.declared.tracking.Previous.the-variants.{Nothing, Frame};
+ghost use Rattle.rules.specs.declared.session.Previous.the-variants.{Nothing, Frame};
 ghost use Rattle.rules.specs.Test.{failedMask};
 ghost use Rattle.step.specs.Track.{observe as observeOf};
 ghost use Rattle.watch.specs.Sides.{trackBy, trackSides};
 use protection::Side;
-use rules::reading::Reading;
+use rules::sensors::Reading;
+use rules::session::Previous;
+use rules::session::ProtectionState;
+use rules::session::Watch;
 use rules::states::TestResult;
-use rules::tracking::Previous;
-use rules::tracking::ProtectionState;
-use rules::tracking::Watch;
 use rules::units::Milliamperes;
 use rules::units::Milliseconds;
 
-fn track_number(
-    number: u8,
+fn track_protection(
+    protection: u8,
     plausible: bool,
     side: Side,
     t: Milliseconds,
     s: ProtectionState,
 ) -> ProtectionState
-    ensures { λ r. ⌜ r ≡ trackBy number plausible side t s ⌝ }
+    ensures { λ r. ⌜ r ≡ trackBy protection plausible side t s ⌝ }
 {
-    let hold = protection::hold(number);
-    let release = protection::release(number);
+    let hold = protection::hold(protection);
+    let release = protection::release(protection);
     tracking::track(
         plausible & side.beyond,
         plausible & side.within,
@@ -45,14 +45,14 @@ fn track_sides(
     ensures { λ a. ⌜ a ≡ trackSides plausible sides t states ⌝ }
 {
     [
-        track_number(0, plausible, sides[0], t, states[0]),
-        track_number(1, plausible, sides[1], t, states[1]),
-        track_number(2, plausible, sides[2], t, states[2]),
-        track_number(3, plausible, sides[3], t, states[3]),
-        track_number(4, plausible, sides[4], t, states[4]),
-        track_number(5, plausible, sides[5], t, states[5]),
-        track_number(6, plausible, sides[6], t, states[6]),
-        track_number(7, plausible, sides[7], t, states[7]),
+        track_protection(0, plausible, sides[0], t, states[0]),
+        track_protection(1, plausible, sides[1], t, states[1]),
+        track_protection(2, plausible, sides[2], t, states[2]),
+        track_protection(3, plausible, sides[3], t, states[3]),
+        track_protection(4, plausible, sides[4], t, states[4]),
+        track_protection(5, plausible, sides[5], t, states[5]),
+        track_protection(6, plausible, sides[6], t, states[6]),
+        track_protection(7, plausible, sides[7], t, states[7]),
     ]
 }
 

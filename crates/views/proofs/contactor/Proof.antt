@@ -1,4 +1,3 @@
--- `views::contactor` meets its contract. Assumes nothing.
 use Rattle.views.proofs.Laws.{closed-is-1, open-is-0}
 use borrow.Author.Needs.{needs}
 use Rattle.views.proofs.contactor.Statement.{statement}

@@ -1,4 +1,3 @@
--- `views::tripped` meets its contract. Assumes nothing.
 use Rattle.views.proofs.Laws.{mask-is}
 use borrow.Author.Needs.{needs}
 use Rattle.views.proofs.tripped.Statement.{statement}

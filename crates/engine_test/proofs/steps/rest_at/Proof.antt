@@ -1,4 +1,4 @@
--- `steps::rest_at` meets its contract, by a walk of its MIR: the reader that `starting_at` gives is held in a local and passed to `rest`. Assumes nothing.
+-- By a walk of its MIR: the reader that `starting_at` gives is held in a local and passed to `rest`.
 use mathlib.Core.Path.{_≡_, refl, ap, _∙_}
 use Prim.Native.Nat.{ℕ, _<_, _^_}
 use mathlib.Core.List.{List, [], _∷_}

@@ -1,5 +1,5 @@
--- `steps::step` meets its contract, by a walk of its MIR: the reader that `starting_at` gives is held in a local and lent to `next`, for a lifetime that the walk
--- makes and ends; what `next` gives goes to `print_read`, and the local is read where `next` left it. Assumes nothing.
+-- By a walk of its MIR: the reader that `starting_at` gives is held in a local and lent to `next`, for a lifetime that the walk
+-- makes and ends; what `next` gives goes to `print_read`, and the local is read where `next` left it.
 use mathlib.Core.Path.{_≡_, refl, ap}
 use Prim.Native.Nat.{ℕ, _<_, _^_}
 use mathlib.Core.List.{List, [], _∷_}

@@ -1,6 +1,6 @@
 use borrow.Author.Needs.{needs}
-use Rattle.watch.proofs.track_number.Statement.{statement}
-use Rattle.watch.proofs.track_number.Tie as tie
+use Rattle.watch.proofs.track_protection.Statement.{statement}
+use Rattle.watch.proofs.track_protection.Tie as tie
 
 hold-requires : tie.Need-hold-requires
 hold-requires c κs = search needs
@@ -14,5 +14,5 @@ track-requires c κs = search needs
 returns : tie.Need-returns
 returns c = rw (c .track .ensures, c .before .before .before .before .hold .ensures 1, c .before .before .before .release .ensures 1)
 
-pub track-number-spec : {M : Type 1} → statement M
-track-number-spec = tie.close (tie.spec hold-requires release-requires track-requires returns)
+pub track-protection-spec : {M : Type 1} → statement M
+track-protection-spec = tie.close (tie.spec hold-requires release-requires track-requires returns)

@@ -7,8 +7,8 @@ use Rattle.rules.specs.declared.states.Contactor.the-variants.{Open, Closed}
 use Rattle.rules.specs.declared.session.ProtectionState.{ProtectionState}
 use Rattle.rules.specs.declared.battery.Record.{Record}
 use Rattle.rules.specs.Protections.{rowOf}
-use Rattle.step.specs.Sound.{at}
-use Rattle.step.specs.Close.{lifted, closes, contactor}
+use Rattle.rules.specs.Shown.{keptAt}
+use Rattle.step.specs.Close.{lifted, closes, contactorOf}
 
 and-true : (b : Bool) → (b && true) ≡ b
 and-true true = refl
@@ -21,17 +21,17 @@ fixed true false = refl
 fixed false on = refl
 
 pub lifted-is : (battery : ℕ) (on : Bool) (p : List ProtectionState)
-    → (not (at p 0 .tripped)
-    && ((not (at p 1 .tripped) || on)
-    && (not (at p 2 .tripped)
-    && ((not (at p 3 .tripped) || on)
-    && (not (at p 4 .tripped) && (not (at p 5 .tripped) && ((not (at p 6 .tripped) || on) && (not (at p 7 .tripped) || on))))))))
+    → (not (keptAt p 0 .tripped)
+    && ((not (keptAt p 1 .tripped) || on)
+    && (not (keptAt p 2 .tripped)
+    && ((not (keptAt p 3 .tripped) || on)
+    && (not (keptAt p 4 .tripped) && (not (keptAt p 5 .tripped) && ((not (keptAt p 6 .tripped) || on) && (not (keptAt p 7 .tripped) || on))))))))
     ≡ lifted battery on p
 unfolding rowOf
 lifted-is battery on p = sym (simp (fixed, and-true))
 
-pub closed : (r : Record) (b : Bool) → b ≡ closes (r .live) → b ≡ true → Closed ≡ contactor r
+pub closed : (r : Record) (b : Bool) → b ≡ closes (r .live) → b ≡ true → Closed ≡ contactorOf (r .live)
 closed r b e h = rw (← e, h) refl
 
-pub opened : (r : Record) (b : Bool) → b ≡ closes (r .live) → b ≡ false → Open ≡ contactor r
+pub opened : (r : Record) (b : Bool) → b ≡ closes (r .live) → b ≡ false → Open ≡ contactorOf (r .live)
 opened r b e h = rw (← e, h) refl

@@ -1,7 +1,7 @@
 // The contactor of a record, worked out when asked.
 ghost use mathlib.Core.Path.{_≡_};
 ghost use Rattle.rules.specs.Contactor.{stateAndCommand};
-ghost use Rattle.step.specs.Close.{hasPassed, lifted as liftedOf, closes as closesOf, contactor as contactorOf};
+ghost use Rattle.step.specs.Close.{hasPassed, lifted as liftedOf, closes as closesOf, contactorOf};
 use rules::battery::Live;
 use rules::battery::Record;
 use rules::calls::Command;
@@ -73,7 +73,7 @@ pub fn closes(l: Live) -> bool
 }
 
 pub fn contactor(r: Record) -> Contactor
-    ensures { λ c. ⌜ c ≡ contactorOf r ⌝ }
+    ensures { λ c. ⌜ c ≡ contactorOf (r .live) ⌝ }
 {
     if closes(r.live) {
         Contactor::Closed

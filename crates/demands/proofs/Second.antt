@@ -1,11 +1,9 @@
 -- Demand 2, clause by clause.
 use mathlib.Core.Path.{_≡_}
-use mathlib.Core.Logic.{_↔_}
 use mathlib.Core.List.{List}
-use Prim.Native.Nat.{ℕ, _<_}
+use Prim.Native.Nat.{ℕ}
 use contract.Lifetimes.{Lfts}
 use denote.Ref.{RefT}
-use lib.Dec.{T}
 use lib.ListN.{take}
 use Rattle.rules.specs.declared.states.Contactor.{Contactor}
 use Rattle.rules.specs.declared.calls.Event.{Event}
@@ -13,14 +11,10 @@ use Rattle.rules.specs.declared.stores.Entry.{Entry}
 use Rattle.rules.specs.declared.battery.Record.{Record}
 use Rattle.rules.specs.declared.answers.ReadEvent.the-variants.{Found as FoundEvent}
 use Rattle.rules.specs.declared.answers.ReadEntry.the-variants.{Found as FoundEntry}
-use Rattle.rules.specs.Numbers.{stateNumber, commandNumber, overrideNumber, testNumber, contactorNumber, bytes}
-use Rattle.rules.specs.Ledger.{ledger, refusals, accepted, testOf, failedMaskOf, failedCountOf, TrippedOn}
+use Rattle.rules.specs.Numbers.{bytes}
+use Rattle.rules.specs.Ledger.{accepted}
 use Rattle.rules.specs.Stores.{longTerm, shortTerm}
-use Rattle.rules.specs.Accounts.{charged, discharged}
-use Rattle.rules.specs.Contactor.{Closed}
-use Rattle.rules.specs.Shown.{keptOf, longEntries, shortEntries}
-use Rattle.rules.specs.Soundness.{Sound}
-use Rattle.rules.specs.Claims.{typeOr1, AfterList}
+use Rattle.rules.specs.Claims.{typeOr1, AfterList, AfterEveryList}
 use Rattle.export.specs.Claims.{StoresExported}
 use Rattle.export.proofs.Allowed.{CodeLong, CodeShort}
 use Rattle.roundtrip.specs.Chains.{ReadsBack, ReadAs, ReadToEnd, Wrote, WrittenAgain, Whole}
@@ -30,82 +24,35 @@ use Rattle.roundtrip.proofs.Exports.{long-export-reads-back, short-export-reads
 use Rattle.engine.proofs.Chain.{CodeRun, code-after-every-list}
 use Rattle.demands.proofs.Exports.{exports-after-every-list}
 
--- ---- "After every list of calls the record shows what document 01 lays down", part by part, of every run of the code from the fresh
--- record of a type number: of its type, or of type 1 beside number 1
+-- ---- "After every list of calls the record shows what document 01 lays down": every clause is a named part of rules:Claims.AfterList, what
+-- two runs share of rules:Shared.Agree. Of every run of the code, from the fresh record of a type number: of its type, or of type 1 beside
+-- refusal 1.
+
+pub record-shows : AfterEveryList CodeRun
+record-shows = code-after-every-list
 
 module _
     (battery : ℕ)
     (calls : List Event)
     (given : List ℕ)
     (after : Record)
-    (closing : Contactor)
-    (run : CodeRun battery calls given after closing) where
-  owed : AfterList (typeOr1 battery) calls given after closing
-  owed = code-after-every-list battery calls given after closing run
-
-  pub each-call-is-answered : given ≡ refusals calls
-  each-call-is-answered = owed .answered
-
-  pub type-stays : after .live .battery ≡ typeOr1 battery
-  type-stays = owed .batteryType
-
-  pub state-is : stateNumber (after .live .control .state) ≡ stateNumber (ledger calls .state)
-  state-is = owed .state
-
-  pub command-is : commandNumber (after .live .control .command) ≡ commandNumber (ledger calls .command)
-  command-is = owed .command
-
-  pub override-is : overrideNumber (after .live .control .overriding) ≡ overrideNumber (ledger calls .override)
-  override-is = owed .override
-
-  pub last-time-is : after .live .last ≡ ledger calls .last
-  last-time-is = owed .last
-
-  pub command-count-is : after .live .tally .commands ≡ ledger calls .commands
-  command-count-is = owed .commands
-
-  pub test-is : testNumber (after .live .watch .test) ≡ testOf (ledger calls .measured)
-  test-is = owed .test
-
-  pub failed-mask-is : after .live .watch .mask ≡ failedMaskOf (ledger calls .measured)
-  failed-mask-is = owed .failedMask
-
-  pub failed-count-is : after .live .watch .failed ≡ failedCountOf (ledger calls .measured)
-  failed-count-is = owed .failedCount
-
-  pub tripped-is : (protection : ℕ) → protection < 8 → T (keptOf after protection .tripped) ↔ TrippedOn (typeOr1 battery) (ledger calls) protection
-  tripped-is = owed .tripped
-
-  pub charged-is : after .live .tally .charged ≡ charged (accepted calls)
-  charged-is = owed .charged
-
-  pub discharged-is : after .live .tally .discharged ≡ discharged (accepted calls)
-  discharged-is = owed .discharged
-
-  pub long-term-is : longEntries (after .stores .long) ≡ longTerm (typeOr1 battery) (accepted calls)
-  long-term-is = owed .longTerm
-
-  pub short-term-is : shortEntries (after .stores .short) ≡ shortTerm (typeOr1 battery) (accepted calls)
-  short-term-is = owed .shortTerm
+    (contactor : Contactor)
+    (run : CodeRun battery calls given after contactor) where
+  owed : AfterList (typeOr1 battery) calls given after contactor
+  owed = record-shows battery calls given after contactor run
 
   -- both stores as the exports write them, oldest entry first, into any buffer
   pub stores-are-exported : StoresExported CodeLong CodeShort (typeOr1 battery) calls after
-  stores-are-exported = exports-after-every-list battery calls given after closing run
-
-  pub record-is-sound : Sound after
-  record-is-sound = owed .sound
-
-  pub contactor-is : (contactorNumber closing ≡ 1) ↔ Closed (typeOr1 battery) (ledger calls)
-  contactor-is = owed .closed
+  stores-are-exported = exports-after-every-list battery calls given after contactor run
 
   -- what was exported reads back as the store that document 01 lays down, and then as "end" where it ends
   pub exported-long-term-reads-back : (κs : Lfts 1) (buffer left : List ℕ) (n : ℕ) → CodeLong after buffer (bytes n) left
       → ReadAs entries (entry-reader κs) (take n left) n (longTerm (typeOr1 battery) (accepted calls))
-  exported-long-term-reads-back κs buffer left n c = rw (← long-term-is) (long-export-reads-back κs after buffer left n c)
+  exported-long-term-reads-back κs buffer left n c = rw (← (owed .shared .longTerm)) (long-export-reads-back κs after buffer left n c)
 
   pub exported-short-term-reads-back : (κs : Lfts 1) (buffer left : List ℕ) (n : ℕ) → CodeShort after buffer (bytes n) left
       → ReadAs entries (entry-reader κs) (take n left) n (shortTerm (typeOr1 battery) (accepted calls))
-  exported-short-term-reads-back κs buffer left n c = rw (← short-term-is) (short-export-reads-back κs after buffer left n c)
+  exported-short-term-reads-back κs buffer left n c = rw (← (owed .shared .shortTerm)) (short-export-reads-back κs after buffer left n c)
 
 module _ (κs : Lfts 1) where
   -- ---- "each event or stored record written reads back as itself": any number of them, written one after the other

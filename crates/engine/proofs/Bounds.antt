@@ -13,19 +13,23 @@ use Rattle.rules.specs.Quantities.{_<ms_, missionTime}
 use Rattle.rules.specs.States.{isPowered, commandIn, commandCeiling, commandAllowed}
 use Rattle.rules.specs.Refusals.{refusal}
 use Rattle.rules.specs.Soundness.{accountLimit}
+use Rattle.rules.specs.Lists.{Each, _and_}
+use Rattle.rules.proofs.Lists.{all-each}
+use Rattle.rules.proofs.Bools.{and-iff, is-true}
 use Rattle.step.specs.Sound.{liveTests, soundLive}
 use Rattle.step.specs.Refusal.{refusalLive}
-use Rattle.step.proofs.Bools.{all-each, and-iff, is-true}
 
 -- 2,000,000 × the mission time
 pub accounts-by : (l : Live) → soundLive l ≡ true → (l .tally .charged .0 ≤ accountLimit missionTime .0) × (l .tally .discharged .0 ≤ accountLimit missionTime .0)
 unfolding soundLive
-accounts-by l e =
-    let tests = all-each (liveTests l) .0 (subst T (sym e) tt) in
-    let last = leb→le (l .last .0) (missionTime .0) (tests .1 .1 .0) in
-    let charged = leb→le (l .tally .charged .0) (accountLimit (l .last) .0) (tests .1 .1 .1 .0) in
-    let discharged = leb→le (l .tally .discharged .0) (accountLimit (l .last) .0) (tests .1 .1 .1 .1 .0) in
-    (omega arith, omega arith)
+accounts-by l e = go (all-each (liveTests l) .0 (subst T (sym e) tt))
+  where
+    go : Each T (liveTests l) → (l .tally .charged .0 ≤ accountLimit missionTime .0) × (l .tally .discharged .0 ≤ accountLimit missionTime .0)
+    go (low and high and last and charged and discharged and rest) =
+        let by-mission = leb→le (l .last .0) (missionTime .0) last in
+        let into = leb→le (l .tally .charged .0) (accountLimit (l .last) .0) charged in
+        let out = leb→le (l .tally .discharged .0) (accountLimit (l .last) .0) discharged in
+        (omega arith, omega arith)
 
 -- a command that is allowed finds the count below its ceiling
 below : (s : State) (n : ℕ) (c : Command) → commandAllowed s n c ≡ true → n < commandCeiling

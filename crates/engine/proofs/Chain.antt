@@ -9,7 +9,7 @@ use Rattle.rules.specs.declared.answers.Fresh.{Fresh}
 use Rattle.rules.specs.declared.answers.Outcome.{Outcome}
 use Rattle.rules.specs.Claims.{AfterEveryList, AnyTwoLists, Starter, OfEveryType, OnEveryRecord}
 use Rattle.step.specs.Fresh.{fresh}
-use Rattle.step.specs.Close.{contactor}
+use Rattle.step.specs.Close.{contactorOf}
 use Rattle.step.specs.Call.{call, run, answers}
 use Rattle.step.proofs.Claims.{StepRuns, of-every-type, after-every-list, any-two-lists, on-every-record}
 use Rattle.engine.proofs.apply.Reads as apply-reads
@@ -33,11 +33,11 @@ pub data Ran : Record → List Event → List ℕ → Record → Type 0 where
       → Ran r (e ∷ es) (o .refusal ∷ ns) q
 
 -- the code as an engine
-pub record CodeRun (battery : ℕ) (calls : List Event) (given : List ℕ) (after : Record) (closing : Contactor) : Type 0 where
+pub record CodeRun (battery : ℕ) (calls : List Event) (given : List ℕ) (after : Record) (contactor : Contactor) : Type 0 where
   pub begin : Fresh
   pub starts : Starts battery begin
   pub ran : Ran (begin .start) calls given after
-  pub has : Has after closing
+  pub has : Has after contactor
 
 -- ---- such a chain is a run of the step
 
@@ -49,12 +49,12 @@ answers-are : {r q : Record} {es : List Event} {ns : List ℕ} → Ran r es ns q
 answers-are done = refl
 answers-are (called {es = es} o g c) = ap₂ _∷_ (ap (λ (x : Outcome). x .refusal) g) (answers-are c ∙ ap (λ (x : Outcome). answers (x .after) es) g)
 
-step-run : (battery : ℕ) (calls : List Event) (given : List ℕ) (after : Record) (closing : Contactor)
-    → CodeRun battery calls given after closing → StepRuns battery calls given after closing
-step-run battery calls given after closing c = (
+step-run : (battery : ℕ) (calls : List Event) (given : List ℕ) (after : Record) (contactor : Contactor)
+    → CodeRun battery calls given after contactor → StepRuns battery calls given after contactor
+step-run battery calls given after contactor c = (
   answers-are (c .ran) ∙ ap (λ (f : Fresh). answers (f .start) calls) (c .starts),
   same,
-  c .has ∙ ap contactor same,
+  c .has ∙ ap (λ (r : Record). contactorOf (r .live)) same,
 )
   where
     same : after ≡ run (fresh battery .start) calls
@@ -63,13 +63,13 @@ step-run battery calls given after closing c = (
 -- ---- the claims
 
 pub code-after-every-list : AfterEveryList CodeRun
-code-after-every-list battery calls given after closing c =
-    after-every-list battery calls given after closing (step-run battery calls given after closing c)
+code-after-every-list battery calls given after contactor c =
+    after-every-list battery calls given after contactor (step-run battery calls given after contactor c)
 
 pub code-any-two-lists : AnyTwoLists CodeRun
-code-any-two-lists battery calls₁ calls₂ alike given₁ given₂ after₁ after₂ closing₁ closing₂ c₁ c₂ =
-    any-two-lists battery calls₁ calls₂ alike given₁ given₂ after₁ after₂ closing₁ closing₂
-    (step-run battery calls₁ given₁ after₁ closing₁ c₁) (step-run battery calls₂ given₂ after₂ closing₂ c₂)
+code-any-two-lists battery calls₁ calls₂ alike given₁ given₂ after₁ after₂ contactor₁ contactor₂ c₁ c₂ =
+    any-two-lists battery calls₁ calls₂ alike given₁ given₂ after₁ after₂ contactor₁ contactor₂
+    (step-run battery calls₁ given₁ after₁ contactor₁ c₁) (step-run battery calls₂ given₂ after₂ contactor₂ c₂)
 
 -- the code's fresh records
 abbrev pub CodeStart : Starter
@@ -99,5 +99,5 @@ ran r [] = done
 ran r (e ∷ es) = called (call r e) refl (ran (call r e .after) es)
 
 pub some-run : (battery : ℕ) (calls : List Event)
-    → CodeRun battery calls (answers (fresh battery .start) calls) (run (fresh battery .start) calls) (contactor (run (fresh battery .start) calls))
+    → CodeRun battery calls (answers (fresh battery .start) calls) (run (fresh battery .start) calls) (contactorOf (run (fresh battery .start) calls .live))
 some-run battery calls = record { begin = fresh battery; starts = refl; ran = ran (fresh battery .start) calls; has = refl }

@@ -15,8 +15,9 @@ use mir.Facts.{toZ-pos}
 use Rattle.rules.specs.declared.units.Milliamperes.{Milliamperes}
 use Rattle.rules.specs.declared.sensors.Reading.{Reading}
 use Rattle.rules.specs.Quantities.{mA, chargeRating}
-use Rattle.rules.specs.Test.{inRange, all, plausible, maskOf, failedMask}
+use Rattle.rules.specs.Test.{inRange, plausible, maskOf, failedMask}
 use Rattle.rules.specs.Protections.{picked, permittedAt}
+use Rattle.rules.specs.Lists.{all}
 
 -- ---- the mask
 

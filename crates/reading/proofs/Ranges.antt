@@ -8,8 +8,9 @@ use lib.IntN.{ℤ, pos, negsuc, negℤ}
 use lib.Signed.{ltZ, leZ, ltZ-no}
 use Rattle.rules.specs.declared.sensors.Reading.{Reading}
 use Rattle.rules.specs.Quantities.{mV, dC, _≤mV_, _≤dC_}
-use Rattle.rules.specs.Test.{cellInRange, currentInRange, temperatureInRange, all, plausible}
+use Rattle.rules.specs.Test.{cellInRange, currentInRange, temperatureInRange, plausible}
 use Rattle.rules.specs.Protections.{picked, otherCells, otherTemperatures, extremes}
+use Rattle.rules.specs.Lists.{all}
 use Rattle.reading.specs.Ranges.{extremesInRange}
 
 -- ---- the order of figures

@@ -12,7 +12,7 @@ use mir.Syntax.{w32}
 use mir.Val.{SFits}
 use Rattle.rules.specs.Bytes.{InRange, entryForms}
 use Rattle.rules.specs.Numbers.{bytes, entryKind, entryValues}
-use Rattle.rules.specs.Shown.{firstPlaces, longEntry, longEntries, shortEntry, shortEntries, entryOf}
+use Rattle.rules.specs.Shown.{tabulate, longEntry, longEntries, shortEntry, shortEntries, entryOf}
 use Rattle.rules.specs.Soundness.{ProtectionsBelow8}
 use Rattle.rules.specs.declared.battery.Record.{Record}
 use Rattle.rules.specs.declared.stores.Entry.{Entry}
@@ -39,10 +39,10 @@ range-append [] ys f g = g
 range-append (x ∷ xs) ys f g = (f .0, range-append xs ys (f .1) g)
 
 range-first : (place : ℕ → Entry) (n : ℕ) → ((i : ℕ) → i < n → InRange entryForms (entryKind (place i)) (entryValues (place i)))
-    → AllInRange entries (firstPlaces n place)
+    → AllInRange entries (tabulate n place)
 range-first place zero each = tt
 range-first place (suc n) each =
-    range-append (firstPlaces n place) (place n ∷ []) (range-first place n (λ i h. each i (omega (arith, h)))) (each n (omega arith), tt)
+    range-append (tabulate n place) (place n ∷ []) (range-first place n (λ i h. each i (omega (arith, h)))) (each n (omega arith), tt)
 
 long-range : (s : LongTerm) → ProtectionsBelow8 (s .count) (s .protections) → InMachine (s .times) (s .values) → AllInRange entries (longEntries s)
 unfolding longEntries

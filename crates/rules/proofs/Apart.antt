@@ -13,7 +13,8 @@ use mir.Facts.{and-yes}
 use Rattle.rules.specs.declared.sensors.Reading.{Reading}
 use Rattle.rules.specs.Quantities.{mA, dC, _<mA_, _≤mA_, _<dC_, negated, chargeRating, dischargeRating}
 use Rattle.rules.specs.Protections.{Protection, overvoltage, undervoltage, overtemperature, coldCharge, chargeOvercurrent, shortCircuit, dischargeOvercurrent, imbalance, hottest, coldest, permittedAt, permitted, table, rowOf}
-use Rattle.rules.proofs.Each.{Each, none, _and_, at-index}
+use Rattle.rules.specs.Lists.{Each, none, _and_}
+use Rattle.rules.proofs.Lists.{at-index}
 use Rattle.rules.proofs.Mask.{bit-of}
 
 -- ---- "Liftable: 1, 3, 6, 7 (as a mask with bit = number, hex CA)"

@@ -15,7 +15,8 @@ use Rattle.rules.specs.Quantities.{mV, mA, dC}
 use Rattle.rules.specs.Test.{cellInRange, currentInRange, temperatureInRange, inRange, plausible}
 use Rattle.rules.specs.Protections.{otherCells, otherTemperatures, highest}
 use Rattle.rules.specs.Examples.{Condition, someCell, highestCell, currentOf, anythingPlausible, implausible, Reads}
-use Rattle.rules.proofs.Each.{none, _and_, at-index, of-member, each-of, all-front}
+use Rattle.rules.specs.Lists.{none, _and_}
+use Rattle.rules.proofs.Lists.{at-index, of-member, each-of, all-front}
 use Rattle.rules.proofs.Extremes.{highest-is}
 use Rattle.rules.proofs.Milder.{MilderReading}
 

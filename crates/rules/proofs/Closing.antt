@@ -1,60 +1,30 @@
--- The test `isClosed` decides *closed*.
-use mathlib.Core.Path.{_≡_, refl, sym, subst}
-use mathlib.Core.Logic.{_↔_, _⊎_, inl, inr}
-use mathlib.Core.Bool.{Bool, true, false, not, _&&_, _||_}
+-- The test `isClosed` decides *closed*, and how it differs between two settings of override. The step's contactor is shown to be this test,
+-- so that nothing is decided a second time.
+use mathlib.Core.Path.{_≡_, refl, sym, subst, _∙_}
+use mathlib.Core.Logic.{_↔_, _⊎_, inl, inr, _≢_}
+use mathlib.Core.Bool.{Bool, true, false, not, _&&_, _||_, true≢false, false≢true}
 use mathlib.Core.List.{List}
-use Prim.Native.Nat.{ℕ, zero, suc, _<_}
-use native.Mathlib.Nat.{not-suc-le-zero}
-use native.Mathlib.Omega.{arith}
-use lib.Dec.{T, eqb, ltb}
-use borrow.Author.Tests.{eqb-true, ltb-true, ltb-false}
+use Prim.Native.Nat.{ℕ, _<_}
+use lib.Dec.{T, eqb}
+use borrow.Author.Tests.{eqb-true}
 use Rattle.rules.specs.declared.states.State.{State}
 use Rattle.rules.specs.declared.states.State.the-variants.{Unpowered, Dormant, Operational, Maintenance}
 use Rattle.rules.specs.declared.calls.Command.{Command}
 use Rattle.rules.specs.declared.calls.Command.the-variants.{Automated, Open, ForceClosed}
 use Rattle.rules.specs.Protections.{rowOf}
 use Rattle.rules.specs.Trips.{Measured}
-use Rattle.rules.specs.Ledger.{Ledger, testOf, TrippedOn, isTrippedOn}
-use Rattle.rules.specs.Contactor.{StateAndCommand, AllLiftable, NoneTripped, Closed, stateAndCommand, eachBelow, isClosed}
+use Rattle.rules.specs.Ledger.{Ledger, setControl, testOf, TrippedOn, isTrippedOn}
+use Rattle.rules.specs.Contactor.{StateAndCommand, PermitsClosing, InForce, AllLiftable, NoneTripped, SomeTripped, Closed, ContactorsDiffer, stateAndCommand, isLifted, isClosed}
+use Rattle.rules.proofs.Bools.{both, and-iff, is-true, unless}
+use Rattle.rules.proofs.Lists.{all-places, some-place}
 use Rattle.rules.proofs.Decide.{is-tripped}
 
-both : (a b : Bool) {A B : Type 0} → T a ↔ A → T b ↔ B → T (a && b) ↔ (A × B)
-both true b x y = (λ h. (x .0 tt, y .0 h), λ p. y .1 (p .1))
-both false b x y = (λ h. absurd h, λ p. x .1 (p .0))
-
-either : (a b : Bool) {A B : Type 0} → T a ↔ A → T b ↔ B → T (a || b) ↔ (A ⊎ B)
-either true b x y = (λ h. inl (x .0 tt), λ p. tt)
-either false b x y = (λ h. inr (y .0 h), λ p. elim p [ inl q ↦ absurd (x .1 q) | inr q ↦ y .1 q ])
-
-not-is : (a : Bool) {A : Type 0} → T a ↔ A → T (not a) ↔ (¬ A)
-not-is true x = (λ h. absurd h, λ p. p (x .0 tt))
-not-is false x = (λ h q. x .1 q, λ p. tt)
-
--- a clear protection, or one that passes
-unless : (a b : Bool) {A : Type 0} → T a ↔ A → T (not a || b) ↔ (A → T b)
-unless true b x = (λ h q. h, λ p. p (x .0 tt))
-unless false b x = (λ h q. absurd (x .1 q), λ p. tt)
-
-is-on : (b : Bool) → T b ↔ (b ≡ true)
-is-on true = (λ h. refl, λ e. tt)
-is-on false = (λ h. absurd h, λ e. subst T (sym e) tt)
-
-each-below : (test : ℕ → Bool) (n : ℕ) → T (eachBelow test n) ↔ ((protection : ℕ) → protection < n → T (test protection))
-each-below test zero = (λ h protection k. absurd (not-suc-le-zero k), λ f. tt)
-each-below test (suc n) =
-    let pair = both (eachBelow test n) (test n) (each-below test n) (λ h. h, λ h. h) in
-    (λ h protection k. at (pair .0 h .0) (pair .0 h .1) protection k (ltb protection n) refl, λ f. pair .1 (λ protection k. f protection (omega (arith, k)), f n (omega arith)))
-  where
-    at : ((protection : ℕ) → protection < n → T (test protection)) → T (test n) → (protection : ℕ) → protection < suc n → (b : Bool) → ltb protection n ≡ b → T (test protection)
-    at below top protection k true e = below protection (ltb-true protection n e)
-    at below top protection k false e = let is : protection ≡ n = omega (arith, k, ltb-false protection n e) in rw is top
-
--- ---- the three conditions
+-- ---- test, state and command
 
 passed-is : (taken : List Measured) → T (eqb (testOf taken) 1) ↔ (testOf taken ≡ 1)
-passed-is taken = (λ h. eqb-true (testOf taken) 1 (is-on (eqb (testOf taken) 1) .0 h), λ e. rw e tt)
+passed-is taken = (λ h. eqb-true (testOf taken) 1 (is-true (eqb (testOf taken) 1) .0 h), λ e. rw e tt)
 
-pub settings-are : (l : Ledger) → T (stateAndCommand (l .state) (l .command)) ↔ StateAndCommand l
+settings-are : (l : Ledger) → T (stateAndCommand (l .state) (l .command)) ↔ StateAndCommand l
 settings-are l = (to (l .state) refl (l .command) refl, from)
   where
     to : (s : State) → l .state ≡ s → (c : Command) → l .command ≡ c → T (stateAndCommand s c) → StateAndCommand l
@@ -71,43 +41,112 @@ settings-are l = (to (l .state) refl (l .command) refl, from)
     from (inl (e, f)) = rw (e, f) tt
     from (inr (e, f)) = rw (e, f) tt
 
+abbrev permits : Ledger → Bool
+permits l = eqb (testOf (l .measured)) 1 && stateAndCommand (l .state) (l .command)
+
+permits-is : (l : Ledger) → T (permits l) ↔ PermitsClosing l
+permits-is l =
+    let parts = both (eqb (testOf (l .measured)) 1) (stateAndCommand (l .state) (l .command)) (passed-is (l .measured)) (settings-are l) in
+    (λ h. record { test = parts .0 h .0; stateAndCommand = parts .0 h .1 }, λ p. parts .1 (p .test, p .stateAndCommand))
+
+-- ---- the protections
+
 module _ (battery : ℕ) (l : Ledger) where
+  abbrev lifted : Bool → Bool
+  lifted override = isLifted battery override (isTrippedOn battery l)
+
   tripped-is : (protection : ℕ) → T (isTrippedOn battery l protection) ↔ TrippedOn battery l protection
   tripped-is protection = is-tripped (rowOf battery protection) (l .measured)
 
-  liftable-is : T (eachBelow (λ protection. not (isTrippedOn battery l protection) || rowOf battery protection .liftable) 8) ↔ AllLiftable battery l
-  liftable-is =
-      let each = each-below (λ protection. not (isTrippedOn battery l protection) || rowOf battery protection .liftable) 8 in (
-        λ h protection k. unless (isTrippedOn battery l protection) (rowOf battery protection .liftable) (tripped-is protection) .0 (each .0 h protection k),
-        λ f. each .1 (λ protection k. unless (isTrippedOn battery l protection) (rowOf battery protection .liftable) (tripped-is protection) .1 (f protection k)),
-      )
+  -- each tripped protection is liftable with override in force
+  abbrev EachLifted : Bool → Type 0
+  EachLifted override = (protection : ℕ) → protection < 8 → TrippedOn battery l protection → T override × T (rowOf battery protection .liftable)
 
-  none-is : T (eachBelow (λ protection. not (isTrippedOn battery l protection)) 8) ↔ NoneTripped battery l
-  none-is =
-      let each = each-below (λ protection. not (isTrippedOn battery l protection)) 8 in (
-        λ h protection k. not-is (isTrippedOn battery l protection) (tripped-is protection) .0 (each .0 h protection k),
-        λ f. each .1 (λ protection k. not-is (isTrippedOn battery l protection) (tripped-is protection) .1 (f protection k)),
-      )
+  lifted-is : (override : Bool) → T (lifted override) ↔ EachLifted override
+  lifted-is override = (
+    λ h protection k t. held protection .0 (every .0 h protection k) (tripped-is protection .1 t),
+    λ f. every .1 (λ protection k. held protection .1 (λ t. f protection k (tripped-is protection .0 t))),
+  )
+    where
+      held : (protection : ℕ) → T (not (isTrippedOn battery l protection) || (override && rowOf battery protection .liftable))
+          ↔ (T (isTrippedOn battery l protection) → T override × T (rowOf battery protection .liftable))
+      held protection = unless (isTrippedOn battery l protection) override (rowOf battery protection .liftable)
 
-  -- the parts of the test, by name
-  abbrev passed : Bool
-  passed = eqb (testOf (l .measured)) 1
+      every : T (lifted override) ↔ ((protection : ℕ) → protection < 8 → T (not (isTrippedOn battery l protection) || (override && rowOf battery protection .liftable)))
+      every = all-places 8 (λ protection. not (isTrippedOn battery l protection) || (override && rowOf battery protection .liftable))
 
-  abbrev settled : Bool
-  settled = stateAndCommand (l .state) (l .command)
+  -- in the paper's words
+  rule-is : EachLifted (l .override) ↔ ((AllLiftable battery l × InForce l) ⊎ NoneTripped battery l)
+  rule-is = (to (l .override) refl, from)
+    where
+      to : (on : Bool) → l .override ≡ on → EachLifted (l .override) → (AllLiftable battery l × InForce l) ⊎ NoneTripped battery l
+      to true e f = inl ((λ protection k t. f protection k t .1), e)
+      to false e f = inr (λ protection k t. subst T e (f protection k t .0))
 
-  abbrev liftable : Bool
-  liftable = eachBelow (λ protection. not (isTrippedOn battery l protection) || rowOf battery protection .liftable) 8
-
-  abbrev clear : Bool
-  clear = eachBelow (λ protection. not (isTrippedOn battery l protection)) 8
+      from : (AllLiftable battery l × InForce l) ⊎ NoneTripped battery l → EachLifted (l .override)
+      from (inl (every, on)) = λ protection k t. (is-true (l .override) .1 on, every protection k t)
+      from (inr none) = λ protection k t. absurd (none protection k t)
 
   pub is-closed : T (isClosed battery l) ↔ Closed battery l
   unfolding isClosed
   is-closed =
-      let permits = both passed settled (passed-is (l .measured)) (settings-are l) in
-      let held = either (liftable && l .override) clear (both liftable (l .override) liftable-is (is-on (l .override))) none-is in
-      let all = both (passed && settled) ((liftable && l .override) || clear) permits held in (
-        λ h. record { permits = record { test = all .0 h .0 .0; stateAndCommand = all .0 h .0 .1 }; protections = all .0 h .1 },
-        λ c. all .1 ((c .permits .test, c .permits .stateAndCommand), c .protections),
-      )
+      let rule : T (lifted (l .override)) ↔ ((AllLiftable battery l × InForce l) ⊎ NoneTripped battery l)
+      = (λ h. rule-is .0 (lifted-is (l .override) .0 h), λ c. lifted-is (l .override) .1 (rule-is .1 c)) in
+      let parts = both (permits l) (lifted (l .override)) (permits-is l) rule in
+      (λ h. record { permits = parts .0 h .0; protections = parts .0 h .1 }, λ c. parts .1 (c .permits, c .protections))
+
+  -- ---- two settings of override
+
+  -- it makes a difference exactly where something is tripped, and all of it liftable
+  lifts-more : (lifted true ≢ lifted false) ↔ (SomeTripped battery l × AllLiftable battery l)
+  lifts-more = (to (lifted true) refl (lifted false) refl, from)
+    where
+      clear : (protection : ℕ) → Bool
+      clear protection = not (isTrippedOn battery l protection) || (false && rowOf battery protection .liftable)
+
+      was-tripped : (t f : Bool) → (not t || (false && f)) ≡ false → T t
+      was-tripped true f e = tt
+      was-tripped false f e = absurd (true≢false e)
+
+      to : (x : Bool) → lifted true ≡ x → (y : Bool) → lifted false ≡ y → lifted true ≢ lifted false → SomeTripped battery l × AllLiftable battery l
+      to true e true f n = absurd (n (e ∙ sym f))
+      to false e false f n = absurd (n (e ∙ sym f))
+      to false e true f n = absurd (subst T e (lifted-is true .1 (λ i k t. absurd (lifted-is false .0 (subst T (sym f) tt) i k t .0))))
+      to true e false f n =
+          let found = some-place 8 clear f in
+          let i = found .0 in (
+            (i, found .1, tripped-is i .0 (was-tripped (isTrippedOn battery l i) (rowOf battery i .liftable) (found .2))),
+            λ i k t. lifted-is true .0 (subst T (sym e) tt) i k t .1,
+          )
+
+      from : SomeTripped battery l × AllLiftable battery l → lifted true ≢ lifted false
+      from ((i, k, t), every) e = lifted-is false .0 (subst T e (lifted-is true .1 (λ j h u. (tt, every j h u)))) i k t .0
+
+  lifted-differ : (x y : Bool) → (lifted x ≢ lifted y) ↔ ((x ≢ y) × SomeTripped battery l × AllLiftable battery l)
+  lifted-differ true true = (λ n. absurd (n refl), λ q. absurd (q .0 refl))
+  lifted-differ false false = (λ n. absurd (n refl), λ q. absurd (q .0 refl))
+  lifted-differ true false = (λ n. (true≢false, lifts-more .0 n .0, lifts-more .0 n .1), λ q. lifts-more .1 (q .1, q .2))
+  lifted-differ false true =
+      (λ n. (false≢true, lifts-more .0 (λ e. n (sym e)) .0, lifts-more .0 (λ e. n (sym e)) .1), λ q e. lifts-more .1 (q .1, q .2) (sym e))
+
+differ-and : (p x y : Bool) → ((p && x) ≢ (p && y)) ↔ (T p × (x ≢ y))
+differ-and false x y = (λ n. absurd (n refl), λ q. absurd (q .0))
+differ-and true x y = (λ n. (tt, n), λ q. q .1)
+
+-- a ledger with another setting of override
+abbrev pub withOverride : Bool → Ledger → Ledger
+withOverride on l = setControl (l .state) (l .command) on (l .last) l
+
+-- two ledgers that differ in override alone, the second standing for any with its setting
+pub closed-differ : (battery : ℕ) (l m : Ledger)
+    → (isClosed battery l ≢ isClosed battery (withOverride (m .override) l)) ↔ ContactorsDiffer battery l m
+unfolding isClosed
+closed-differ battery l m =
+    let both-ways = differ-and (permits l) (lifted battery l (l .override)) (lifted battery l (m .override)) in
+    let lifts = lifted-differ battery l (l .override) (m .override) in (
+      λ n.
+          let (p, d) = both-ways .0 n in
+          let (one, some, every) = lifts .0 d in
+          record { justOne = one; permits = permits-is l .0 p; some = some; allLiftable = every },
+      λ d. both-ways .1 (permits-is l .1 (d .permits), lifts .1 (d .justOne, d .some, d .allLiftable)),
+    )

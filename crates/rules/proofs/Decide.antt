@@ -51,10 +51,3 @@ is-tripped p (m ∷ taken) =
     either : Trips p m taken ⊎ (Tripped p taken × ¬ Releases p m taken) → Tripped p (m ∷ taken)
     either (inl e) = tripped-new p m taken e
     either (inr (before, not-now)) = tripped-kept p m taken before not-now
-
--- two tests that decide one statement are equal
-pub same-test : (a b : Bool) {X : Type 0} → T a ↔ X → T b ↔ X → a ≡ b
-same-test true true x y = refl
-same-test true false x y = absurd (y .1 (x .0 tt))
-same-test false true x y = absurd (x .1 (y .0 tt))
-same-test false false x y = refl

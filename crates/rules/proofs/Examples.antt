@@ -13,13 +13,14 @@ use lib.ListN.{length, getD}
 use mir.Facts.{and-yes, or-yes}
 use Rattle.rules.specs.declared.sensors.Reading.{Reading}
 use Rattle.rules.specs.Quantities.{mA, ms, dC, mAms, negated, dischargeRating, missionTime}
-use Rattle.rules.specs.Test.{plausible, all}
+use Rattle.rules.specs.Test.{plausible}
 use Rattle.rules.specs.Protections.{permitted, extremes, overvoltage, rowOf}
 use Rattle.rules.specs.Trips.{Measured, time, isTripped}
 use Rattle.rules.specs.Ledger.{ledger, accepted, TrippedOn}
 use Rattle.rules.specs.Accounts.{charged}
 use Rattle.rules.specs.Examples.{Condition, Frame, Meets, session, Outcome, clear, tripped, Comes, Row, permits, leaves, charges, Holds, rows}
-use Rattle.rules.proofs.Each.{Each, none, _and_, at-index, of-member, each-of}
+use Rattle.rules.specs.Lists.{all, Each, none, _and_}
+use Rattle.rules.proofs.Lists.{at-index, of-member, each-of}
 use Rattle.rules.proofs.Decide.{is-tripped}
 use Rattle.rules.proofs.Sessions.{Timely, total, measured-in, charged-in}
 use Rattle.rules.proofs.Milder.{Milder, Follows, tripped-milder, total-milder}

@@ -1,6 +1,7 @@
+pub mod Bools
+pub mod Lists
 pub mod Spans
 pub mod Decide
-pub mod Each
 pub mod Mask
 pub mod Apart
 pub mod Extremes

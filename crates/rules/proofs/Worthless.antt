@@ -5,8 +5,7 @@ use mathlib.Core.Path.{_≡_, refl, sym, subst, _∙_}
 use mathlib.Core.Logic.{_⊎_, _≢_, inl, inr}
 use mathlib.Core.Bool.{true, false, not, true≢false}
 use mathlib.Core.List.{List, [], _∷_}
-use Prim.Native.Nat.{ℕ, zero, suc, _<_}
-use native.Mathlib.Nat.{le-of-suc-le-suc, not-suc-le-zero}
+use Prim.Native.Nat.{ℕ, _<_}
 use native.Mathlib.Omega.{arith}
 use lib.Count.{ones}
 use lib.Dec.{T, T-not}
@@ -16,17 +15,19 @@ use Rattle.rules.specs.declared.states.State.the-variants.{Unpowered}
 use Rattle.rules.specs.declared.calls.Event.{Event}
 use Rattle.rules.specs.declared.battery.Record.{Record}
 use Rattle.rules.specs.Quantities.{ms, isType}
-use Rattle.rules.specs.Numbers.{stateNumber, contactorNumber}
+use Rattle.rules.specs.Numbers.{contactorNumber}
 use Rattle.rules.specs.Refusals.{refusal}
 use Rattle.rules.specs.Test.{plausible, failedMask, failedCount}
 use Rattle.rules.specs.Protections.{extremes, permitted, rowOf}
 use Rattle.rules.specs.Ledger.{ledger, TrippedOn, isTrippedOn}
 use Rattle.rules.specs.Contactor.{Closed, InForce, AllLiftable, NoneTripped, isClosed}
-use Rattle.rules.specs.Alike.{Alike, none, same, switched}
-use Rattle.rules.specs.Shown.{keptOf, longEntries}
+use Rattle.rules.specs.Lists.{Each, none, _and_}
+use Rattle.rules.specs.Alike.{Alike, none as noCalls, same, switched}
 use Rattle.rules.specs.Soundness.{Sound}
+use Rattle.rules.specs.Shared.{shownBy}
 use Rattle.rules.specs.Claims.{typeOr1, Engine, AfterList, AfterEveryList, TwoRuns, AnyTwoLists, Starter, OfEveryType, OnEveryRecord}
-use Rattle.rules.specs.Worthless.{Each, Seen, cellsOf, example, lowCellsUnder, lowCellTrip, lowCellsForced, overPowerLoss, betweenAfterTrip, Row, Shows, rows}
+use Rattle.rules.specs.Worthless.{Seen, cellsOf, example, lowCellsUnder, lowCellTrip, lowCellsForced, overPowerLoss, betweenAfterTrip, Row, Shows, rows}
+use Rattle.rules.proofs.Lists.{at-index}
 use Rattle.rules.proofs.Decide.{is-tripped}
 use Rattle.rules.proofs.Closing.{is-closed}
 
@@ -47,50 +48,51 @@ not-closed-on battery calls h c = T-not (isClosed battery (ledger calls)) h (is-
 
 -- ---- after each row
 
-infixr 20 _and_
-abbrev _and_ : {A B : Type 0} → A → B → A × B
-a and b = (a, b)
-
 abbrev Owes : Row → Type 0
 Owes r = (answers : List ℕ) (after : Record) (contactor : Contactor) → AfterList (typeOr1 (r .battery)) (r .calls) answers after contactor
     → Each (Seen answers after contactor) (r .shows)
 
+-- what computes on the ledger is seen
+module _ {battery : ℕ} {calls : List Event} {answers : List ℕ} {after : Record} {contactor : Contactor}
+    (owed : AfterList battery calls answers after contactor) where
+  trips : (protection : ℕ) → protection < 8 → T (isTrippedOn battery (ledger calls) protection) → shownBy after .tripped protection
+  trips protection h t = owed .shared .tripped protection h .1 (tripped-on battery protection calls t)
+
+  clears : (protection : ℕ) → protection < 8 → T (not (isTrippedOn battery (ledger calls) protection)) → ¬ shownBy after .tripped protection
+  clears protection h t shown = not-tripped-on battery protection calls t (owed .shared .tripped protection h .0 shown)
+
+  closes : T (isClosed battery (ledger calls)) → contactorNumber contactor ≡ 1
+  closes h = owed .closed .1 (closed-on battery calls h)
+
+  opens : T (not (isClosed battery (ledger calls))) → contactorNumber contactor ≢ 1
+  opens h shown = not-closed-on battery calls h (owed .closed .0 shown)
+
 each-row : Each Owes rows
 unfolding rows refusal plausible failedMask failedCount ones extremes permitted rowOf isClosed
 each-row =
-    (λ answers after contactor owed. owed .answered and owed .state and owed .last and tt)
-    and (λ answers after contactor owed. owed .answered and owed .state and owed .test and owed .closed .1 (closed-on 1 example tt) and tt)
-    and (λ answers after contactor owed. owed .answered and owed .state and tt)
-    and (λ answers after contactor owed. owed .commands and owed .command and tt)
-    and (λ answers after contactor owed. owed .failedMask and owed .failedCount and owed .test and tt)
-    and (λ answers after contactor owed. owed .charged and owed .discharged and tt)
+    (λ answers after contactor owed. owed .answered and owed .shared .state and owed .last and none)
+    and (λ answers after contactor owed. owed .answered and owed .shared .state and owed .shared .test and closes owed tt and none)
+    and (λ answers after contactor owed. owed .answered and owed .shared .state and none)
+    and (λ answers after contactor owed. owed .shared .commands and owed .shared .command and none)
+    and (λ answers after contactor owed. owed .shared .failedMask and owed .shared .failedCount and owed .shared .test and none)
+    and (λ answers after contactor owed. owed .shared .charged and owed .shared .discharged and none)
     and (λ answers after contactor owed.
     owed .override
-    and owed .tripped 1 (omega arith) .1 (tripped-on 1 1 (lowCellsUnder true) tt)
-    and (λ h. not-tripped-on 1 0 (lowCellsUnder true) tt (owed .tripped 0 (omega arith) .0 h))
-    and owed .longTerm
-    and owed .shortTerm
-    and owed .closed .1 (closed-on 1 (lowCellsUnder true) tt)
-    and tt)
-    and (λ answers after contactor owed.
-    owed .state
-    and owed .command
-    and owed .tripped 1 (omega arith) .1 (tripped-on 1 1 lowCellsForced tt)
-    and (λ h. not-closed-on 1 lowCellsForced tt (owed .closed .0 h))
-    and tt)
-    and (λ answers after contactor owed. (λ h. not-tripped-on 1 0 overPowerLoss tt (owed .tripped 0 (omega arith) .0 h)) and owed .longTerm and tt)
-    and (λ answers after contactor owed. owed .tripped 0 (omega arith) .1 (tripped-on 1 0 betweenAfterTrip tt) and owed .shortTerm and tt)
-    and (λ answers after contactor owed. owed .longTerm and owed .shortTerm and tt)
-    and (λ answers after contactor owed. owed .batteryType and owed .answered and tt)
-    and tt
-
-at-index : {A : Type 0} (P : A → Type 0) (xs : List A) → Each P xs → (i : ℕ) → i < length xs → (d : A) → P (getD xs i d)
-at-index P [] ps i h d = absurd (not-suc-le-zero h)
-at-index P (x ∷ xs) ps zero h d = ps .0
-at-index P (x ∷ xs) ps (suc i) h d = at-index P xs (ps .1) i (le-of-suc-le-suc h) d
+    and trips owed 1 (omega arith) tt
+    and clears owed 0 (omega arith) tt
+    and owed .shared .longTerm
+    and owed .shared .shortTerm
+    and closes owed tt
+    and none)
+    and (λ answers after contactor owed. owed .shared .state and owed .shared .command and trips owed 1 (omega arith) tt and opens owed tt and none)
+    and (λ answers after contactor owed. clears owed 0 (omega arith) tt and owed .shared .longTerm and none)
+    and (λ answers after contactor owed. trips owed 0 (omega arith) tt and owed .shared .shortTerm and none)
+    and (λ answers after contactor owed. owed .shared .longTerm and owed .shared .shortTerm and none)
+    and (λ answers after contactor owed. owed .batteryType and owed .answered and none)
+    and none
 
 pub shows : (engine : Engine) → AfterEveryList engine → (i : ℕ) → i < length rows → (d : Row) → Shows engine (getD rows i d)
-shows engine claims i h d answers after contactor run = at-index Owes rows each-row i h d answers after contactor (claims _ _ _ _ _ run)
+shows engine claims i h d answers after contactor run = at-index each-row i h d answers after contactor (claims _ _ _ _ _ run)
 
 -- ---- the numbers of type numbers, and the record beside 1
 
@@ -115,26 +117,26 @@ module _
     (run₁ : engine 1 (lowCellsUnder true) given₁ after₁ contactor₁)
     (run₂ : engine 1 (lowCellsUnder false) given₂ after₂ contactor₂) where
   alike : Alike (lowCellsUnder true) (lowCellsUnder false)
-  alike = same _ (same _ (switched _ true false (same _ (same _ none))))
+  alike = same _ (same _ (switched _ true false (same _ (same _ noCalls))))
 
   owed : TwoRuns 1 (lowCellsUnder true) (lowCellsUnder false) given₁ given₂ after₁ after₂ contactor₁ contactor₂
   owed = claims 1 _ _ alike _ _ _ _ _ _ run₁ run₂
 
   pub accepted-in-the-second : given₂ ≡ 0 ∷ 0 ∷ 0 ∷ 0 ∷ 0 ∷ []
   unfolding refusal
-  accepted-in-the-second = sym (owed .sameAnswers) ∙ owed .ledgerAnswers₁
+  accepted-in-the-second = sym (owed .sameAnswers) ∙ owed .answered₁
 
-  pub operational-in-the-second : stateNumber (after₂ .live .control .state) ≡ 2
+  pub operational-in-the-second : shownBy after₂ .state ≡ 2
   unfolding refusal
-  operational-in-the-second = sym (owed .state) ∙ owed .laidDown₁ .state
+  operational-in-the-second = sym (owed .shared .state) ∙ owed .byRules₁ .shared .state
 
-  pub tripped-in-the-second : T (keptOf after₂ 1 .tripped)
+  pub tripped-in-the-second : shownBy after₂ .tripped 1
   unfolding refusal plausible extremes permitted rowOf
-  tripped-in-the-second = subst T (owed .tripped 1 (omega arith)) (owed .laidDown₁ .tripped 1 (omega arith) .1 (tripped-on 1 1 (lowCellsUnder true) tt))
+  tripped-in-the-second = owed .shared .tripped 1 (omega arith) .0 (owed .byRules₁ .shared .tripped 1 (omega arith) .1 (tripped-on 1 1 (lowCellsUnder true) tt))
 
-  pub recorded-in-the-second : longEntries (after₂ .stores .long) ≡ lowCellTrip
+  pub recorded-in-the-second : shownBy after₂ .longTerm ≡ lowCellTrip
   unfolding refusal plausible extremes permitted rowOf
-  recorded-in-the-second = sym (owed .longTerm) ∙ owed .laidDown₁ .longTerm
+  recorded-in-the-second = sym (owed .shared .longTerm) ∙ owed .byRules₁ .shared .longTerm
 
   pub closed-in-the-first : contactorNumber contactor₁ ≡ 1
   unfolding refusal plausible extremes permitted rowOf isClosed

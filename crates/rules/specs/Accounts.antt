@@ -7,8 +7,8 @@ use Rattle.rules.specs.declared.units.Milliamperes.{Milliamperes}
 use Rattle.rules.specs.declared.units.Milliseconds.{Milliseconds}
 use Rattle.rules.specs.declared.units.Charge.{Charge}
 use Rattle.rules.specs.declared.calls.Event.{Event}
-use Rattle.rules.specs.declared.calls.Event.the-variants.{Measurement, PowerOn, PowerLoss, ContactorCommand, StateRequest, BattleOverride, ClearLongTerm}
 use Rattle.rules.specs.Quantities.{mAms, elapsed}
+use Rattle.rules.specs.Calls.{byKind}
 use Rattle.rules.specs.Test.{plausible}
 use Rattle.rules.specs.Trips.{Measured}
 use Rattle.rules.specs.Ledger.{Ledger, Accepted}
@@ -38,13 +38,7 @@ increment part (earlier ∷ past) now =
 
 -- what a call adds to an account: nothing unless it is a measurement
 abbrev pub incrementAt : (Milliamperes → Milliseconds → Charge) → Ledger → Event → Charge
-incrementAt part before (Measurement t r) = increment part (before .measured) (record { at = t; reading = r })
-incrementAt part before (PowerOn t) = mAms 0
-incrementAt part before (PowerLoss t) = mAms 0
-incrementAt part before (ContactorCommand t c) = mAms 0
-incrementAt part before (StateRequest t q) = mAms 0
-incrementAt part before (BattleOverride t on) = mAms 0
-incrementAt part before (ClearLongTerm t) = mAms 0
+incrementAt part before e = byKind (λ t r. increment part (before .measured) (record { at = t; reading = r })) (mAms 0) (mAms 0) (mAms 0) e
 
 -- an account over the accepted calls, newest first, of all sessions
 abbrev pub account : (Milliamperes → Milliseconds → Charge) → List Accepted → Charge

@@ -1,25 +1,22 @@
 -- What an engine owes: every clause of the demands of 00-mission.md that is about calls and records, as a named part. Statements only,
 -- over any engine; the proofs are elsewhere, for the definition of one call and for the code.
-use Prim.Native.Nat.{ℕ, _<_}
+use Prim.Native.Nat.{ℕ}
 use mathlib.Core.Path.{_≡_}
 use mathlib.Core.Logic.{_↔_, _≢_}
 use mathlib.Core.Bool.{cond}
 use mathlib.Core.List.{List, []}
-use lib.Dec.{T}
 use Rattle.rules.specs.declared.states.Contactor.{Contactor}
 use Rattle.rules.specs.declared.states.Contactor.the-variants.{Open}
 use Rattle.rules.specs.declared.calls.Event.{Event}
 use Rattle.rules.specs.declared.battery.Record.{Record}
 use Rattle.rules.specs.Quantities.{isType}
-use Rattle.rules.specs.Numbers.{stateNumber, commandNumber, overrideNumber, testNumber, contactorNumber}
+use Rattle.rules.specs.Numbers.{overrideNumber, contactorNumber}
 use Rattle.rules.specs.Refusals.{firstOf, freshChecks, refusal, CallAnswer}
-use Rattle.rules.specs.Ledger.{ledger, refusals, accepted, testOf, failedMaskOf, failedCountOf, TrippedOn}
-use Rattle.rules.specs.Stores.{longTerm, shortTerm}
-use Rattle.rules.specs.Accounts.{charged, discharged}
+use Rattle.rules.specs.Ledger.{ledger, refusals}
 use Rattle.rules.specs.Contactor.{Closed, ContactorsDiffer}
 use Rattle.rules.specs.Alike.{Alike}
-use Rattle.rules.specs.Shown.{keptOf, longEntries, shortEntries}
 use Rattle.rules.specs.Soundness.{Sound}
+use Rattle.rules.specs.Shared.{shownBy, ruledFor, Agree}
 
 -- the type that a fresh record has: type 1 beside number 1
 abbrev pub typeOr1 : ℕ → ℕ
@@ -30,26 +27,25 @@ typeOr1 battery = cond (isType battery) battery 1
 abbrev pub Engine : Type 1
 Engine = (battery : ℕ) → (calls : List Event) → (answers : List ℕ) → (after : Record) → (contactor : Contactor) → Type 0
 
+-- "as document 01's ledger of each run has it"
+abbrev pub Answered : List Event → List ℕ → Type 0
+Answered calls answers = answers ≡ refusals calls
+
+-- "the contactor is closed exactly when document 01's contactor rule, worked out on the ledger of that run's type and list alone, says so"
+abbrev pub ClosedByRule : ℕ → List Event → Contactor → Type 0
+ClosedByRule battery calls contactor = (contactorNumber contactor ≡ 1) ↔ Closed battery (ledger calls)
+
 -- ---- demand 2: "After every list of calls the record shows what document 01 lays down"
 
 pub record AfterList (battery : ℕ) (calls : List Event) (answers : List ℕ) (after : Record) (contactor : Contactor) : Type 0 where
-  pub answered : answers ≡ refusals calls
+  pub answered : Answered calls answers
   pub batteryType : after .live .battery ≡ battery
-  pub state : stateNumber (after .live .control .state) ≡ stateNumber (ledger calls .state)
-  pub command : commandNumber (after .live .control .command) ≡ commandNumber (ledger calls .command)
   pub override : overrideNumber (after .live .control .overriding) ≡ overrideNumber (ledger calls .override)
   pub last : after .live .last ≡ ledger calls .last
-  pub commands : after .live .tally .commands ≡ ledger calls .commands
-  pub test : testNumber (after .live .watch .test) ≡ testOf (ledger calls .measured)
-  pub failedMask : after .live .watch .mask ≡ failedMaskOf (ledger calls .measured)
-  pub failedCount : after .live .watch .failed ≡ failedCountOf (ledger calls .measured)
-  pub tripped : (protection : ℕ) → protection < 8 → T (keptOf after protection .tripped) ↔ TrippedOn battery (ledger calls) protection
-  pub charged : after .live .tally .charged ≡ charged (accepted calls)
-  pub discharged : after .live .tally .discharged ≡ discharged (accepted calls)
-  pub longTerm : longEntries (after .stores .long) ≡ longTerm battery (accepted calls)
-  pub shortTerm : shortEntries (after .stores .short) ≡ shortTerm battery (accepted calls)
+  -- state, command, tripped protections, test, failed sensors, accounts, command count, stores
+  pub shared : Agree (shownBy after) (ruledFor battery calls)
   pub sound : Sound after
-  pub closed : (contactorNumber contactor ≡ 1) ↔ Closed battery (ledger calls)
+  pub closed : ClosedByRule battery calls contactor
 
 abbrev pub AfterEveryList : Engine → Type 0
 AfterEveryList engine =
@@ -67,30 +63,19 @@ pub record TwoRuns
     : Type 0 where
   -- "each call gets the same refusal in both runs, or is accepted in both, as document 01's ledger of each run has it"
   pub sameAnswers : answers₁ ≡ answers₂
-  pub ledgerAnswers₁ : answers₁ ≡ refusals calls₁
-  pub ledgerAnswers₂ : answers₂ ≡ refusals calls₂
+  pub answered₁ : Answered calls₁ answers₁
+  pub answered₂ : Answered calls₂ answers₂
   -- "the same state, command, tripped protections, test result, failed sensors, charge accounts, command count and fault stores"
-  pub state : stateNumber (after₁ .live .control .state) ≡ stateNumber (after₂ .live .control .state)
-  pub command : commandNumber (after₁ .live .control .command) ≡ commandNumber (after₂ .live .control .command)
-  pub tripped : (protection : ℕ) → protection < 8 → keptOf after₁ protection .tripped ≡ keptOf after₂ protection .tripped
-  pub test : testNumber (after₁ .live .watch .test) ≡ testNumber (after₂ .live .watch .test)
-  pub failedMask : after₁ .live .watch .mask ≡ after₂ .live .watch .mask
-  pub failedCount : after₁ .live .watch .failed ≡ after₂ .live .watch .failed
-  pub charged : after₁ .live .tally .charged ≡ after₂ .live .tally .charged
-  pub discharged : after₁ .live .tally .discharged ≡ after₂ .live .tally .discharged
-  pub commands : after₁ .live .tally .commands ≡ after₂ .live .tally .commands
-  pub longTerm : longEntries (after₁ .stores .long) ≡ longEntries (after₂ .stores .long)
-  pub shortTerm : shortEntries (after₁ .stores .short) ≡ shortEntries (after₂ .stores .short)
+  pub shared : Agree (shownBy after₁) (shownBy after₂)
   -- "each as document 01 lays it down for either list"
-  pub laidDown₁ : AfterList battery calls₁ answers₁ after₁ contactor₁
-  pub laidDown₂ : AfterList battery calls₂ answers₂ after₂ contactor₂
+  pub byRules₁ : AfterList battery calls₁ answers₁ after₁ contactor₁
+  pub byRules₂ : AfterList battery calls₂ answers₂ after₂ contactor₂
   -- "Their contactors differ exactly when override is in force in just one run, state, command and test permit closing, and one or more
   -- protections are tripped, all of them liftable."
   pub contactorsDiffer : (contactorNumber contactor₁ ≢ contactorNumber contactor₂) ↔ ContactorsDiffer battery (ledger calls₁) (ledger calls₂)
-  -- "In either run the contactor is closed exactly when document 01's contactor rule, worked out on the ledger of that run's type and list
-  -- alone, says so."
-  pub closed₁ : (contactorNumber contactor₁ ≡ 1) ↔ Closed battery (ledger calls₁)
-  pub closed₂ : (contactorNumber contactor₂ ≡ 1) ↔ Closed battery (ledger calls₂)
+  -- "In either run the contactor is closed exactly when document 01's contactor rule .. says so."
+  pub closed₁ : ClosedByRule battery calls₁ contactor₁
+  pub closed₂ : ClosedByRule battery calls₂ contactor₂
 
 abbrev pub AnyTwoLists : Engine → Type 0
 AnyTwoLists engine =

@@ -1,5 +1,5 @@
 -- Document 01, "The contactor", on the ledger of a run's type and list.
-use Prim.Native.Nat.{ℕ, zero, suc, _<_}
+use Prim.Native.Nat.{ℕ, _<_}
 use mathlib.Core.Path.{_≡_}
 use mathlib.Core.Bool.{Bool, true, false, not, _&&_, _||_}
 use mathlib.Core.Logic.{_⊎_, _≢_}
@@ -8,6 +8,7 @@ use Rattle.rules.specs.declared.states.State.{State}
 use Rattle.rules.specs.declared.states.State.the-variants.{Unpowered, Dormant, Operational, Maintenance}
 use Rattle.rules.specs.declared.calls.Command.{Command}
 use Rattle.rules.specs.declared.calls.Command.the-variants.{Automated, Open, ForceClosed}
+use Rattle.rules.specs.Lists.{tabulate, all}
 use Rattle.rules.specs.Protections.{rowOf}
 use Rattle.rules.specs.Ledger.{Ledger, testOf, TrippedOn, isTrippedOn}
 
@@ -51,16 +52,14 @@ stateAndCommand Maintenance Automated = false
 stateAndCommand Maintenance Open = false
 stateAndCommand Maintenance ForceClosed = true
 
--- whether a test holds of each protection below n
-abbrev pub eachBelow : (ℕ → Bool) → ℕ → Bool
-eachBelow test zero = true
-eachBelow test (suc protection) = eachBelow test protection && test protection
+-- no protection holds the contactor open: each is clear, or liftable with override in force
+abbrev pub isLifted : ℕ → Bool → (ℕ → Bool) → Bool
+isLifted battery override isTripped =
+    all (tabulate 8 (λ protection. not (isTripped protection) || (override && rowOf battery protection .liftable)))
 
 unfoldable pub isClosed : ℕ → Ledger → Bool
 isClosed battery l =
-    (eqb (testOf (l .measured)) 1 && stateAndCommand (l .state) (l .command))
-    && ((eachBelow (λ protection. not (isTrippedOn battery l protection) || rowOf battery protection .liftable) 8 && l .override)
-    || eachBelow (λ protection. not (isTrippedOn battery l protection)) 8)
+    (eqb (testOf (l .measured)) 1 && stateAndCommand (l .state) (l .command)) && isLifted battery (l .override) (isTrippedOn battery l)
 
 -- ---- two runs
 

@@ -3,6 +3,7 @@ use Prim.Native.Nat.{ℕ, zero, suc, _+_}
 use mathlib.Core.Bool.{Bool, false, not, cond, _&&_}
 use mathlib.Core.List.{List, [], _∷_}
 use Rattle.rules.specs.declared.units.Milliseconds.{Milliseconds}
+use Rattle.rules.specs.declared.sensors.Reading.{Reading}
 use Rattle.rules.specs.declared.calls.Command.{Command}
 use Rattle.rules.specs.declared.calls.Command.the-variants.{Automated}
 use Rattle.rules.specs.declared.calls.Event.{Event}
@@ -34,35 +35,30 @@ atFirst = record { state = Unpowered; command = Automated; override = false; las
 abbrev pub refused : Ledger → Event → ℕ
 refused l e = refusal (l .state) (l .last) (l .commands) e
 
--- what an accepted call sets
-abbrev pub accept : Ledger → Event → Ledger
-accept l (PowerOn t) = record { state = Dormant; command = Automated; override = false; last = t; commands = l .commands; measured = [] }
-accept l (PowerLoss t) = record { state = Unpowered; command = Automated; override = false; last = t; commands = l .commands; measured = [] }
-accept l (StateRequest t q) = record {
-  state = requested q;
-  command = cond (isChange (l .state) q) Automated (l .command);
-  override = not (entersDormant (l .state) q) && l .override;
-  last = t;
-  commands = l .commands;
-  measured = l .measured;
-}
-accept l (ContactorCommand t c) = record {
+-- ---- what an accepted call sets, at its time
+
+-- "Dormant, Automated, off, no measurements; power loss: likewise, but Unpowered": the border of a session
+abbrev pub border : State → Milliseconds → Ledger → Ledger
+border s t l = record { state = s; command = Automated; override = false; last = t; commands = l .commands; measured = [] }
+
+-- state, command and override
+abbrev pub setControl : State → Command → Bool → Milliseconds → Ledger → Ledger
+setControl s c on t l = record { state = s; command = c; override = on; last = t; commands = l .commands; measured = l .measured }
+
+-- "the count one more"
+abbrev pub countCommand : Ledger → Ledger
+countCommand l = record {
   state = l .state;
-  command = c;
+  command = l .command;
   override = l .override;
-  last = t;
+  last = l .last;
   commands = l .commands + 1;
   measured = l .measured;
 }
-accept l (BattleOverride t on) = record {
-  state = l .state;
-  command = l .command;
-  override = on;
-  last = t;
-  commands = l .commands;
-  measured = l .measured;
-}
-accept l (Measurement t r) = record {
+
+-- "joins the measurements as the last"
+abbrev pub addMeasurement : Reading → Milliseconds → Ledger → Ledger
+addMeasurement r t l = record {
   state = l .state;
   command = l .command;
   override = l .override;
@@ -70,14 +66,16 @@ accept l (Measurement t r) = record {
   commands = l .commands;
   measured = record { at = t; reading = r } ∷ l .measured;
 }
-accept l (ClearLongTerm t) = record {
-  state = l .state;
-  command = l .command;
-  override = l .override;
-  last = t;
-  commands = l .commands;
-  measured = l .measured;
-}
+
+abbrev pub accept : Ledger → Event → Ledger
+accept l (PowerOn t) = border Dormant t l
+accept l (PowerLoss t) = border Unpowered t l
+accept l (StateRequest t q) =
+    setControl (requested q) (cond (isChange (l .state) q) Automated (l .command)) (not (entersDormant (l .state) q) && l .override) t l
+accept l (ContactorCommand t c) = countCommand (setControl (l .state) c (l .override) t l)
+accept l (BattleOverride t on) = setControl (l .state) (l .command) on t l
+accept l (Measurement t r) = addMeasurement r t l
+accept l (ClearLongTerm t) = setControl (l .state) (l .command) (l .override) t l
 
 -- the first of two where a refusal is 0, "A refused call changes nothing"
 abbrev pub ifAccepted : {A : Type 0} → ℕ → A → A → A

@@ -1,3 +1,4 @@
+pub mod Lists
 pub mod Quantities
 pub mod Calls
 pub mod Numbers
@@ -13,6 +14,7 @@ pub mod Contactor
 pub mod Alike
 pub mod Shown
 pub mod Soundness
+pub mod Shared
 pub mod Bytes
 pub mod Answers
 pub mod Text

@@ -1,6 +1,6 @@
 -- Document 01, "The built-in test".
 use Prim.Native.Nat.{ℕ, _+_, _*_}
-use mathlib.Core.Bool.{Bool, true, cond, _&&_}
+use mathlib.Core.Bool.{Bool, cond, _&&_}
 use mathlib.Core.List.{List, [], _∷_}
 use lib.Count.{ones}
 use lib.IntN.{pos, negℤ}
@@ -8,6 +8,7 @@ use Rattle.rules.specs.declared.units.Millivolts.{Millivolts}
 use Rattle.rules.specs.declared.units.Milliamperes.{Milliamperes}
 use Rattle.rules.specs.declared.units.DeciCelsius.{DeciCelsius}
 use Rattle.rules.specs.declared.sensors.Reading.{Reading}
+use Rattle.rules.specs.Lists.{all}
 use Rattle.rules.specs.Quantities.{mV, mA, dC, _≤mV_, _≤mA_, _≤dC_}
 
 -- "every cell is 500 to 5,000, the current -2,000,000 to 2,000,000 and every temperature -540 to 880"
@@ -38,10 +39,6 @@ inRange r =
     ∷ temperatureInRange (r .temperature2)
     ∷ temperatureInRange (r .temperature3)
     ∷ []
-
-abbrev pub all : List Bool → Bool
-all [] = true
-all (b ∷ bs) = b && all bs
 
 -- document 01: "plausible"
 unfoldable pub plausible : Reading → Bool

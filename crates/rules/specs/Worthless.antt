@@ -5,7 +5,6 @@ use mathlib.Core.Path.{_≡_}
 use mathlib.Core.Logic.{_≢_}
 use mathlib.Core.Bool.{Bool, true}
 use mathlib.Core.List.{List, [], _∷_}
-use lib.Dec.{T}
 use lib.IntN.{ℤ, pos, negℤ}
 use Rattle.rules.specs.declared.sensors.Reading.{Reading}
 use Rattle.rules.specs.declared.states.Contactor.{Contactor}
@@ -16,9 +15,10 @@ use Rattle.rules.specs.declared.calls.Event.the-variants.{Measurement, P
 use Rattle.rules.specs.declared.stores.Entry.{Entry}
 use Rattle.rules.specs.declared.stores.Entry.the-variants.{Trip}
 use Rattle.rules.specs.declared.battery.Record.{Record}
+use Rattle.rules.specs.Lists.{Each}
 use Rattle.rules.specs.Quantities.{mV, mA, ms, dC, mAms}
-use Rattle.rules.specs.Numbers.{stateNumber, commandNumber, overrideNumber, testNumber, contactorNumber}
-use Rattle.rules.specs.Shown.{keptOf, longEntries, shortEntries}
+use Rattle.rules.specs.Numbers.{overrideNumber, contactorNumber}
+use Rattle.rules.specs.Shared.{shownBy}
 use Rattle.rules.specs.Claims.{Engine}
 
 -- ---- what is seen after a list
@@ -34,27 +34,22 @@ pub data Sight : Type 0 where
 abbrev pub Seen : List ℕ → Record → Contactor → Sight → Type 0
 Seen given after contactor (answers ns) = given ≡ ns
 Seen given after contactor (batteryType n) = after .live .battery ≡ n
-Seen given after contactor (state n) = stateNumber (after .live .control .state) ≡ n
-Seen given after contactor (command n) = commandNumber (after .live .control .command) ≡ n
+Seen given after contactor (state n) = shownBy after .state ≡ n
+Seen given after contactor (command n) = shownBy after .command ≡ n
 Seen given after contactor (override n) = overrideNumber (after .live .control .overriding) ≡ n
 Seen given after contactor (last n) = after .live .last ≡ ms n
-Seen given after contactor (commands n) = after .live .tally .commands ≡ n
-Seen given after contactor (test n) = testNumber (after .live .watch .test) ≡ n
-Seen given after contactor (failedMask n) = after .live .watch .mask ≡ n
-Seen given after contactor (failedCount n) = after .live .watch .failed ≡ n
-Seen given after contactor (tripped protection) = T (keptOf after protection .tripped)
-Seen given after contactor (clear protection) = ¬ T (keptOf after protection .tripped)
-Seen given after contactor (charged n) = after .live .tally .charged ≡ mAms n
-Seen given after contactor (discharged n) = after .live .tally .discharged ≡ mAms n
-Seen given after contactor (longTerm es) = longEntries (after .stores .long) ≡ es
-Seen given after contactor (shortTerm es) = shortEntries (after .stores .short) ≡ es
+Seen given after contactor (commands n) = shownBy after .commands ≡ n
+Seen given after contactor (test n) = shownBy after .test ≡ n
+Seen given after contactor (failedMask n) = shownBy after .failedMask ≡ n
+Seen given after contactor (failedCount n) = shownBy after .failedCount ≡ n
+Seen given after contactor (tripped protection) = shownBy after .tripped protection
+Seen given after contactor (clear protection) = ¬ shownBy after .tripped protection
+Seen given after contactor (charged n) = shownBy after .charged ≡ mAms n
+Seen given after contactor (discharged n) = shownBy after .discharged ≡ mAms n
+Seen given after contactor (longTerm es) = shownBy after .longTerm ≡ es
+Seen given after contactor (shortTerm es) = shownBy after .shortTerm ≡ es
 Seen given after contactor closed = contactorNumber contactor ≡ 1
 Seen given after contactor open' = contactorNumber contactor ≢ 1
-
--- each of a list
-abbrev pub Each : {A : Type 0} → (A → Type 0) → List A → Type 0
-Each P [] = Unit {0}
-Each P (x ∷ xs) = P x × Each P xs
 
 -- ---- calls
 

@@ -1,6 +1,6 @@
 // What accepted calls other than measurements and contactor commands make of the live part of a record.
 ghost use mathlib.Core.Path.{_≡_};
-ghost use Rattle.step.specs.Call.{beginLive, setLive, enterState, requestControl, overrideControl};
+ghost use Rattle.step.specs.Call.{borderLive, setLive, enterState, requestControl, overrideControl};
 use rules::battery::Control;
 use rules::battery::Live;
 use rules::calls::Command;
@@ -10,7 +10,7 @@ use rules::units::Milliseconds;
 
 // A session begins in Dormant or ends in Unpowered.
 pub fn begin(state: State, t: Milliseconds, l: Live) -> Live
-    ensures { λ n. ⌜ n ≡ beginLive state t l ⌝ }
+    ensures { λ n. ⌜ n ≡ borderLive state t l ⌝ }
 {
     let control = fresh::control_in(state);
     let watch = fresh::no_watch();

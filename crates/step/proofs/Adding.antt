@@ -14,11 +14,11 @@ use Rattle.rules.specs.declared.stores.Entry.{Entry}
 use Rattle.rules.specs.declared.stores.Entry.the-variants.{Trip, Release}
 use Rattle.rules.specs.declared.stores.Stores.{Stores}
 use Rattle.rules.specs.Protections.{rowOf}
-use Rattle.rules.specs.Stores.{lastOf, ascending}
-use Rattle.rules.specs.Shown.{longEntry, shortEntry, longEntries, shortEntries}
-use Rattle.step.specs.Sound.{at}
+use Rattle.rules.specs.Stores.{ascending}
+use Rattle.rules.specs.Shown.{longEntry, shortEntry, longEntries, shortEntries, keptAt}
+use Rattle.rules.proofs.Lists.{length-tabulate, take-kept, last-kept, last-all}
+use Rattle.rules.specs.Lists.{lastOf}
 use Rattle.step.specs.Push.{pushTrip, pushRelease, trips, releases, pushTrips, pushReleases, pushAll}
-use Rattle.step.proofs.Lists.{length-first, take-kept, last-kept, last-all}
 use Rattle.step.proofs.Storing.{LongFits, ShortFits, long-pushed, long-fits, short-pushed, short-fits}
 
 pub record StoresFit (s : Stores) : Type 0 where
@@ -45,8 +45,8 @@ keeps-more keep kept xs ys e now before b n =
 added-none : (s : Stores) → StoresFit s → Added s s [] []
 unfolding longEntries shortEntries
 added-none s f = record {
-  long = rw append-nil (sym (take-all 64 (longEntries (s .long)) (omega (arith, length-first (s .long .count) (longEntry (s .long)), f .long .count))));
-  short = rw append-nil (sym (last-all 16 (shortEntries (s .short)) (omega (arith, length-first (s .short .count) (shortEntry (s .short)), f .short .count))));
+  long = rw append-nil (sym (take-all 64 (longEntries (s .long)) (omega (arith, length-tabulate (s .long .count) (longEntry (s .long)), f .long .count))));
+  short = rw append-nil (sym (last-all 16 (shortEntries (s .short)) (omega (arith, length-tabulate (s .short .count) (shortEntry (s .short)), f .short .count))));
   fits = f;
 }
 
@@ -76,8 +76,8 @@ module _
     (r : Reading)
     (before after : List ProtectionState)
     (was now : ℕ → Bool)
-    (before-is : (i : ℕ) → i < 8 → at before i .tripped ≡ was i)
-    (after-is : (i : ℕ) → i < 8 → at after i .tripped ≡ now i) where
+    (before-is : (i : ℕ) → i < 8 → keptAt before i .tripped ≡ was i)
+    (after-is : (i : ℕ) → i < 8 → keptAt after i .tripped ≡ now i) where
   abbrev pub tripAt : ℕ → List Entry
   tripAt i = cond (not (was i) && now i) (Trip t i (rowOf battery i .value r) ∷ []) []
 

@@ -15,12 +15,14 @@ use Rattle.rules.specs.declared.sensors.Reading.{Reading}
 use Rattle.rules.specs.declared.session.Previous.{Previous}
 use Rattle.rules.specs.declared.session.Previous.the-variants.{Nothing, Frame}
 use Rattle.rules.specs.Quantities.{mA, mAms, elapsed}
-use Rattle.rules.specs.Test.{plausible, currentInRange, inRange, all}
+use Rattle.rules.specs.Test.{plausible, currentInRange, inRange}
 use Rattle.rules.specs.Trips.{Measured, time}
 use Rattle.rules.specs.Accounts.{positivePart, negativePart, positiveTimes, negativeTimes, increment}
 use Rattle.rules.specs.Soundness.{accountLimit}
+use Rattle.rules.specs.Lists.{all}
+use Rattle.rules.proofs.Bools.{and-iff}
 use Rattle.step.specs.Charge.{flowed}
-use Rattle.step.proofs.Bools.{and-iff}
+use Rattle.step.proofs.Tracking.{AllBy}
 
 -- what the record keeps of the last measurement
 abbrev pub previousOf : List Measured → Previous
@@ -81,3 +83,11 @@ increment-bounded part b (m ∷ taken) now last account h k = go (plausible (m .
     go true e true = omega (arith, b (m .reading .current) (plausible-current (m .reading) (subst T (sym e) tt)) (elapsed (m .at) (now .at)))
     go true e false = omega arith
     go false e y = omega arith
+
+pub account-time : (last : ℕ) (taken : List Measured) → AllBy last taken → accountTime last taken ≤ last
+account-time last [] b = omega arith
+account-time last (m ∷ taken) b = b .0
+
+pub account-going : (last t : ℕ) (taken : List Measured) → last ≤ t → accountTime last taken ≤ accountTime t taken
+account-going last t [] h = h
+account-going last t (m ∷ taken) h = omega arith

@@ -9,22 +9,23 @@ use Rattle.rules.specs.declared.calls.Event.{Event}
 use Rattle.rules.specs.declared.battery.Record.{Record}
 use Rattle.rules.specs.declared.answers.Fresh.{Fresh}
 use Rattle.rules.specs.Quantities.{isType}
-use Rattle.rules.specs.Numbers.{stateNumber, commandNumber, overrideNumber, testNumber, contactorNumber}
+use Rattle.rules.specs.Numbers.{stateNumber, commandNumber, overrideNumber, contactorNumber}
 use Rattle.rules.specs.Refusals.{firstOf, freshChecks, CallAnswer.unsound}
 use Rattle.rules.specs.Protections.{rowOf}
 use Rattle.rules.specs.Ledger.{ledger, atFirst, accepted, isTrippedOn}
 use Rattle.rules.specs.Stores.{longTerm, shortTerm}
 use Rattle.rules.specs.Contactor.{Closed, ContactorsDiffer}
 use Rattle.rules.specs.Alike.{Alike}
-use Rattle.rules.specs.Shown.{keptOf, longEntries, shortEntries}
+use Rattle.rules.specs.Shown.{keptOf}
+use Rattle.rules.specs.Shared.{Shared, shownBy, ruledFor, Agree}
 use Rattle.rules.specs.Claims.{typeOr1, Engine, AfterList, AfterEveryList, TwoRuns, AnyTwoLists, Starter, OfEveryType, Refused, OnEveryRecord}
-use Rattle.rules.proofs.Decide.{is-tripped, same-test}
+use Rattle.rules.proofs.Decide.{is-tripped}
+use Rattle.rules.proofs.Bools.{and-iff, is-true, same-test}
 use Rattle.step.specs.Fresh.{freshRecord, fresh}
 use Rattle.step.specs.Sound.{sound}
 use Rattle.step.specs.Refusal.{refusal, refusalLive}
-use Rattle.step.specs.Close.{closes, contactor}
+use Rattle.step.specs.Close.{closes, contactorOf}
 use Rattle.step.specs.Call.{advance, answer, call, run, answers}
-use Rattle.step.proofs.Bools.{and-iff, is-true}
 use Rattle.step.proofs.Refusals.{table-listed, table-not-5}
 use Rattle.step.proofs.Sounds.{sound-is, type-is}
 use Rattle.step.proofs.Shows.{Shows, shows-fresh}
@@ -34,10 +35,10 @@ use Rattle.step.proofs.Overrides.{erase, alike-run, alike-answers}
 
 -- the runs of the step
 abbrev pub StepRuns : Engine
-StepRuns battery calls given after closing =
+StepRuns battery calls given after contactor =
     (given ≡ answers (fresh battery .start) calls)
     × (after ≡ run (fresh battery .start) calls)
-    × (closing ≡ contactor (run (fresh battery .start) calls))
+    × (contactor ≡ contactorOf (run (fresh battery .start) calls .live))
 
 -- ---- after every list
 
@@ -55,25 +56,30 @@ module _ (battery : ℕ) (type : T (isType battery)) (calls : List Event) where
   shown-tripped protection h =
       shown .watch .protections protection h .tripped ∙ ap (λ (b : ℕ). isTrippedOn b (ledger calls) protection) same-type
 
-  pub after-list : AfterList battery calls (answers (freshRecord battery) calls) last (contactor last)
-  after-list = record {
-    answered = answers-are (freshRecord battery) atFirst [] calls (shows-fresh battery type);
-    batteryType = same-type;
+  agrees : Agree (shownBy last) (ruledFor battery calls)
+  agrees = record {
     state = ap stateNumber (shown .control .state);
     command = ap commandNumber (shown .control .command);
-    override = ap overrideNumber (shown .control .override);
-    last = shown .last;
-    commands = shown .tally .counted;
+    tripped = λ protection h. rw (shown-tripped protection h) (is-tripped (rowOf battery protection) (ledger calls .measured));
     test = shown .watch .test;
     failedMask = shown .watch .mask;
     failedCount = shown .watch .failed;
-    tripped = λ protection h. rw (shown-tripped protection h) (is-tripped (rowOf battery protection) (ledger calls .measured));
     charged = shown .tally .charged;
     discharged = shown .tally .discharged;
+    commands = shown .tally .counted;
     longTerm = shown .stores .long ∙ ap (λ (b : ℕ). longTerm b (accepted calls)) same-type;
     shortTerm = shown .stores .short ∙ ap (λ (b : ℕ). shortTerm b (accepted calls)) same-type;
+  }
+
+  pub after-list : AfterList battery calls (answers (freshRecord battery) calls) last (contactorOf (last .live))
+  after-list = record {
+    answered = answers-are (freshRecord battery) atFirst [] calls (shows-fresh battery type);
+    batteryType = same-type;
+    override = ap overrideNumber (shown .control .override);
+    last = shown .last;
+    shared = agrees;
     sound = shows-sound last (ledger calls) (accepted calls) shown;
-    closed = subst (λ (b : ℕ). (contactorNumber (contactor last) ≡ 1) ↔ Closed b (ledger calls)) same-type
+    closed = subst (λ (b : ℕ). (contactorNumber (contactorOf (last .live)) ≡ 1) ↔ Closed b (ledger calls)) same-type
         (closed-is last (ledger calls) (accepted calls) shown);
   }
 
@@ -126,8 +132,24 @@ of-every-type battery given start starts = record {
 -- ---- the claims
 
 pub after-every-list : AfterEveryList StepRuns
-after-every-list battery calls given after closing (g, a, c) =
+after-every-list battery calls given after contactor (g, a, c) =
     rw (g, a, c, fresh-is battery) (after-list (typeOr1 battery) (known-or-1 battery) calls)
+
+-- what is shown doesn't look at override
+agrees-with-itself : (a : Shared) → Agree a a
+agrees-with-itself a = record {
+  state = refl;
+  command = refl;
+  tripped = λ protection h. (λ t. t, λ t. t);
+  test = refl;
+  failedMask = refl;
+  failedCount = refl;
+  charged = refl;
+  discharged = refl;
+  commands = refl;
+  longTerm = refl;
+  shortTerm = refl;
+}
 
 module _ (battery : ℕ) (type : T (isType battery)) (calls₁ calls₂ : List Event) (alike : Alike calls₁ calls₂) where
   abbrev r : Record
@@ -145,39 +167,29 @@ module _ (battery : ℕ) (type : T (isType battery)) (calls₁ calls₂ : List E
       ap (λ (x : Record). overridden (q .live .control .overriding) (x .live)) (sym same-but)
       ∙ ap (λ (on : Bool). overridden on (r .live)) (shown battery type calls₂ .control .override)
 
-  first : AfterList battery calls₁ (answers (freshRecord battery) calls₁) r (contactor r)
+  first : AfterList battery calls₁ (answers (freshRecord battery) calls₁) r (contactorOf (r .live))
   first = after-list battery type calls₁
 
-  second : AfterList battery calls₂ (answers (freshRecord battery) calls₂) q (contactor q)
+  second : AfterList battery calls₂ (answers (freshRecord battery) calls₂) q (contactorOf (q .live))
   second = after-list battery type calls₂
 
-  pub two-runs : TwoRuns battery calls₁ calls₂ (answers (freshRecord battery) calls₁) (answers (freshRecord battery) calls₂) r q (contactor r) (contactor q)
+  pub two-runs : TwoRuns battery calls₁ calls₂ (answers (freshRecord battery) calls₁) (answers (freshRecord battery) calls₂) r q (contactorOf (r .live)) (contactorOf (q .live))
   two-runs = record {
     sameAnswers = alike-answers (freshRecord battery) (freshRecord battery) alike refl;
-    ledgerAnswers₁ = first .answered;
-    ledgerAnswers₂ = second .answered;
-    state = ap (λ (x : Record). stateNumber (x .live .control .state)) same-but;
-    command = ap (λ (x : Record). commandNumber (x .live .control .command)) same-but;
-    tripped = λ protection h. ap (λ (x : Record). keptOf x protection .tripped) same-but;
-    test = ap (λ (x : Record). testNumber (x .live .watch .test)) same-but;
-    failedMask = ap (λ (x : Record). x .live .watch .mask) same-but;
-    failedCount = ap (λ (x : Record). x .live .watch .failed) same-but;
-    charged = ap (λ (x : Record). x .live .tally .charged) same-but;
-    discharged = ap (λ (x : Record). x .live .tally .discharged) same-but;
-    commands = ap (λ (x : Record). x .live .tally .commands) same-but;
-    longTerm = ap (λ (x : Record). longEntries (x .stores .long)) same-but;
-    shortTerm = ap (λ (x : Record). shortEntries (x .stores .short)) same-but;
-    laidDown₁ = first;
-    laidDown₂ = second;
-    contactorsDiffer = subst (λ (b : ℕ). (contactorNumber (contactor r) ≢ contactorNumber (contactor q)) ↔ ContactorsDiffer b (ledger calls₁) (ledger calls₂))
+    answered₁ = first .answered;
+    answered₂ = second .answered;
+    shared = subst (λ (x : Record). Agree (shownBy r) (shownBy x)) same-but (agrees-with-itself (shownBy r));
+    byRules₁ = first;
+    byRules₂ = second;
+    contactorsDiffer = subst (λ (b : ℕ). (contactorNumber (contactorOf (r .live)) ≢ contactorNumber (contactorOf (q .live))) ↔ ContactorsDiffer b (ledger calls₁) (ledger calls₂))
         (battery-run (freshRecord battery) calls₁)
-        (contactors-differ r q (ledger calls₁) (ledger calls₂) (accepted calls₁) (shown battery type calls₁) other);
+        (contactors-differ r (ledger calls₁) (accepted calls₁) (shown battery type calls₁) q (ledger calls₂) other);
     closed₁ = first .closed;
     closed₂ = second .closed;
   }
 
 pub any-two-lists : AnyTwoLists StepRuns
-any-two-lists battery calls₁ calls₂ alike given₁ given₂ after₁ after₂ closing₁ closing₂ (g₁, a₁, c₁) (g₂, a₂, c₂) =
+any-two-lists battery calls₁ calls₂ alike given₁ given₂ after₁ after₂ contactor₁ contactor₂ (g₁, a₁, c₁) (g₂, a₂, c₂) =
     rw (g₁, a₁, c₁, g₂, a₂, c₂, fresh-is battery) (two-runs (typeOr1 battery) (known-or-1 battery) calls₁ calls₂ alike)
 
 -- ---- one call, on any record

@@ -1,12 +1,12 @@
-pub mod Bools
 pub mod Tracking
 pub mod Refusals
 pub mod Sounds
-pub mod Lists
 pub mod Storing
 pub mod Adding
 pub mod Charging
 pub mod Shows
+pub mod Measuring
+pub mod Setting
 pub mod Accepting
 pub mod Runs
 pub mod Closing

@@ -1,13 +1,11 @@
 -- A run of the step prints the text that the rules give.
 use mathlib.Core.Path.{_≡_, refl, sym, ap, ap₂, _∙_}
-use mathlib.Core.Logic.{_↔_}
 use mathlib.Core.Bool.{Bool, true, false, cond}
 use mathlib.Core.List.{List, [], _∷_, _++_}
 use Prim.Native.Nat.{ℕ, zero, suc, _+_, _<_}
 use native.Mathlib.Omega.{arith}
 use lib.Dec.{T}
 use lib.ListN.{length}
-use Rattle.rules.specs.declared.states.Contactor.{Contactor}
 use Rattle.rules.specs.declared.states.Contactor.the-variants.{Open, Closed as IsClosed}
 use Rattle.rules.specs.declared.calls.Event.{Event}
 use Rattle.rules.specs.declared.battery.Record.{Record}
@@ -20,25 +18,22 @@ use Rattle.rules.specs.Accounts.{charged, discharged}
 use Rattle.rules.specs.Contactor.{isClosed}
 use Rattle.rules.specs.Shown.{longEntry, longEntries}
 use Rattle.rules.specs.Text.{eventLine, endLine, stopLine, Ending, atEnd, stopped, readLog, callLine, callLines, lastLine, logText, text}
-use Rattle.rules.proofs.Closing.{is-closed}
+use Rattle.rules.proofs.Lists.{length-tabulate}
+use Rattle.rules.proofs.Bools.{is-true}
 use Rattle.step.specs.Fresh.{freshRecord}
-use Rattle.step.specs.Close.{contactor}
+use Rattle.step.specs.Close.{contactorOf}
 use Rattle.step.specs.Call.{call, run}
 use Rattle.step.specs.Print.{trippedOf, liveLine, printed, endOf, lastOf, printedInput}
-use Rattle.step.proofs.Lists.{length-first}
 use Rattle.step.proofs.Shows.{Shows, shows-fresh}
-use Rattle.step.proofs.Closing.{closed-is}
+use Rattle.step.proofs.Closing.{same-closed}
 use Rattle.step.proofs.Runs.{shows-call, shows-run, refusal-is, battery-run}
 use Rattle.step.proofs.Claims.{same-known}
-use Rattle.step.proofs.Bools.{is-true}
 
 -- ---- one line
 
-contactor-digit : (c : Contactor) (b : Bool) {X : Type 0} → (contactorNumber c ≡ 1) ↔ X → T b ↔ X → contactorNumber c ≡ cond b 1 0
-contactor-digit Open true x y = absurd (let e : _≡_ {A = ℕ} 0 1 = x .1 (y .0 tt) in omega (arith, e))
-contactor-digit Open false x y = refl
-contactor-digit IsClosed true x y = refl
-contactor-digit IsClosed false x y = absurd (y .1 (x .0 refl))
+contactor-digit : (b : Bool) → contactorNumber (cond b IsClosed Open) ≡ cond b 1 0
+contactor-digit true = refl
+contactor-digit false = refl
 
 mask-same : (n : ℕ) (f g : ℕ → Bool) → ((k : ℕ) → k < n → f k ≡ g k) → maskBelow f n ≡ maskBelow g n
 mask-same zero f g h = refl
@@ -52,20 +47,20 @@ ledgerLine battery count refusal l =
 module _ (r : Record) (l : Ledger) (past : List Accepted) (k : Shows r l past) where
   tripped-same : trippedOf (r .live) ≡ trippedMaskOn (r .live .battery) l
   unfolding trippedOf
-  tripped-same = mask-same 8 _ (isTrippedOn (r .live .battery) l) (λ count h. k .watch .protections count h .tripped)
+  tripped-same = mask-same 8 _ (isTrippedOn (r .live .battery) l) (λ protection h. k .watch .protections protection h .tripped)
 
-  closed-same : contactorNumber (contactor r) ≡ cond (isClosed (r .live .battery) l) 1 0
-  closed-same = contactor-digit (contactor r) (isClosed (r .live .battery) l) (closed-is r l past k) (is-closed (r .live .battery) l)
+  closed-digit : contactorNumber (contactorOf (r .live)) ≡ cond (isClosed (r .live .battery) l) 1 0
+  closed-digit = rw (same-closed r l past k) (contactor-digit (isClosed (r .live .battery) l))
 
   -- the line of a record that shows a ledger
   pub line-shown : (count refusal : ℕ) → liveLine count refusal (r .live) ≡ ledgerLine (r .live .battery) count refusal l
   unfolding liveLine
   line-shown count refusal =
-      rw (closed-same, tripped-same, k .control .state, k .control .override, k .watch .test) refl
+      rw (closed-digit, tripped-same, k .control .state, k .control .override, k .watch .test) refl
 
   pub end-shown : endOf r ≡ endLine (charged past .0) (discharged past .0) (length (longTerm (r .live .battery) past))
   unfolding longEntries
-  end-shown = rw (k .tally .charged, k .tally .discharged, sym (k .stores .long), length-first (r .stores .long .count) (longEntry (r .stores .long))) refl
+  end-shown = rw (k .tally .charged, k .tally .discharged, sym (k .stores .long), length-tabulate (r .stores .long .count) (longEntry (r .stores .long))) refl
 
 -- ---- the lines of a list of calls, and the last line
 

@@ -18,16 +18,17 @@ use Rattle.rules.specs.Trips.{Measured}
 use Rattle.rules.specs.Ledger.{Ledger, refused, accept, ifAccepted, enter, ledgerFrom, refusalsFrom, Accepted, entered, acceptedFrom, failedMaskOf}
 use Rattle.rules.specs.Soundness.{Sound, MeasuredBy, KeptInRange}
 use Rattle.rules.proofs.Mask.{mask-13-bits}
-use Rattle.step.specs.Sound.{at, sound}
+use Rattle.rules.specs.Shown.{keptAt}
+use Rattle.rules.proofs.Bools.{is-true}
+use Rattle.step.specs.Sound.{sound}
 use Rattle.step.specs.Refusal.{refusal}
 use Rattle.step.specs.Call.{advance, answer, call, run, answers}
-use Rattle.step.proofs.Bools.{is-true}
 use Rattle.step.proofs.Tracking.{AllBy, tracks-by}
 use Rattle.step.proofs.Refusals.{in-time}
 use Rattle.step.proofs.Sounds.{sound-is}
-use Rattle.step.proofs.Charging.{previousOf, accountTime, plausible-current}
+use Rattle.step.proofs.Charging.{previousOf, accountTime, account-time, plausible-current}
 use Rattle.step.proofs.Shows.{Shows}
-use Rattle.step.proofs.Accepting.{accepted, account-time}
+use Rattle.step.proofs.Accepting.{accepted}
 
 -- ---- a record that shows a ledger is sound
 
@@ -63,7 +64,7 @@ shows-sound r l past k = record {
   charged = rw (k .last) (omega (arith, k .tally .chargedBy, bound));
   discharged = rw (k .last) (omega (arith, k .tally .dischargedBy, bound));
   spans = λ protection h. rw (k .last)
-      (tracks-by (rowOf (r .live .battery) protection) (at (r .live .watch .protections) protection) (l .measured) (l .last) (k .timed .by) (k .watch .protections protection h));
+      (tracks-by (rowOf (r .live .battery) protection) (keptAt (r .live .watch .protections) protection) (l .measured) (l .last) (k .timed .by) (k .watch .protections protection h));
   previous = rw (k .last, k .watch .previous) (previous-by (l .last) (l .measured) (k .timed .by));
   current = rw (k .watch .previous) (previous-kept (l .measured));
 }

@@ -17,9 +17,8 @@ use Rattle.rules.specs.Trips.{Measured}
 use Rattle.rules.specs.Ledger.{Ledger, atFirst, Accepted, testOf, failedMaskOf, failedCountOf}
 use Rattle.rules.specs.Stores.{longTerm, shortTerm}
 use Rattle.rules.specs.Accounts.{charged, discharged}
-use Rattle.rules.specs.Shown.{longEntries, shortEntries}
+use Rattle.rules.specs.Shown.{longEntries, shortEntries, keptAt}
 use Rattle.step.specs.Fresh.{noWatch, noLongTerm, noShortTerm, freshRecord}
-use Rattle.step.specs.Sound.{at}
 use Rattle.step.proofs.Tracking.{AllBy, Ordered, Tracks, tracks-none}
 use Rattle.step.proofs.Storing.{LongFits, ShortFits}
 use Rattle.step.proofs.Adding.{StoresFit}
@@ -37,7 +36,7 @@ pub record ShowsWatch (battery : ℕ) (w : Watch) (taken : List Measured) : Type
   pub mask : w .mask ≡ failedMaskOf taken
   pub failed : w .failed ≡ failedCountOf taken
   pub previous : w .previous ≡ previousOf taken
-  pub protections : (protection : ℕ) → protection < 8 → Tracks (rowOf battery protection) (at (w .protections) protection) taken
+  pub protections : (protection : ℕ) → protection < 8 → Tracks (rowOf battery protection) (keptAt (w .protections) protection) taken
 
 -- an account is at most 2,000,000 × the bound, a time
 pub record ShowsTally (n : Tally) (commands bound : ℕ) (past : List Accepted) : Type 0 where
@@ -78,7 +77,7 @@ watch-none battery = record {
   protections = λ protection h. subst (λ s. Tracks (rowOf battery protection) s []) (sym (all-clear protection h)) (tracks-none (rowOf battery protection));
 }
   where
-    all-clear : (protection : ℕ) → protection < 8 → at (noWatch .protections) protection ≡ Rattle.step.specs.Fresh.clearState
+    all-clear : (protection : ℕ) → protection < 8 → keptAt (noWatch .protections) protection ≡ Rattle.rules.specs.Shown.clearState
     all-clear protection h = lib.ListN.getD-replicate 8 protection _ _ h
 
 pub long-none : LongFits noLongTerm

@@ -16,11 +16,12 @@ use Rattle.rules.specs.declared.session.Previous.{Previous}
 use Rattle.rules.specs.declared.session.Previous.the-variants.{Nothing, Frame}
 use Rattle.rules.specs.declared.battery.Record.{Record}
 use Rattle.rules.specs.Quantities.{isType}
-use Rattle.rules.specs.Test.{all}
-use Rattle.rules.specs.Shown.{keptOf}
+use Rattle.rules.specs.Shown.{keptOf, keptAt}
 use Rattle.rules.specs.Soundness.{Sound, StartedBy, MeasuredBy, KeptInRange, ProtectionsBelow8}
-use Rattle.step.specs.Sound.{at, listOf, startedBy, measuredBy, currentKept, below8, liveTests, storesTests, soundLive, soundStores, sound}
-use Rattle.step.proofs.Bools.{and-iff, Each, all-each, all-places}
+use Rattle.rules.specs.Lists.{all, tabulate, Each, none, _and_}
+use Rattle.rules.proofs.Bools.{and-iff}
+use Rattle.rules.proofs.Lists.{all-each, all-places}
+use Rattle.step.specs.Sound.{startedBy, measuredBy, currentKept, below8, liveTests, storesTests, soundLive, soundStores, sound}
 
 -- ---- a battery type
 
@@ -79,59 +80,50 @@ kept-is (Frame t i) = (λ h. h, λ h. h)
 -- ---- the record
 
 module _ (r : Record) where
-  spans : T (all (listOf 8 (λ protection. startedBy (r .live .last) (at (r .live .watch .protections) protection .span))))
+  spans : T (all (tabulate 8 (λ protection. startedBy (r .live .last) (keptAt (r .live .watch .protections) protection .span))))
       ↔ ((protection : ℕ) → protection < 8 → StartedBy (r .live .last) (keptOf r protection .span))
   spans =
-      let every = all-places 8 (λ protection. startedBy (r .live .last) (at (r .live .watch .protections) protection .span)) in
+      let every = all-places 8 (λ protection. startedBy (r .live .last) (keptAt (r .live .watch .protections) protection .span)) in
       (λ h protection k. started-is (r .live .last) (keptOf r protection .span) .0 (every .0 h protection k), λ f. every .1 (λ protection k. started-is (r .live .last) (keptOf r protection .span) .1 (f protection k)))
 
-  to : Each (liveTests (r .live)) → Each (storesTests (r .stores)) → Sound r
-  to (low, (high, (last, (charged, (discharged, (mask, (measured, (current, (spans', _))))))))) (long, (short, (longs, (shorts, _)))) = record {
-    battery = type-is (r .live .battery) .0 (low, high);
-    lastTime = leb→le _ _ last;
-    longCount = leb→le _ _ long;
-    shortCount = leb→le _ _ short;
-    longProtections = below8-is (r .stores .long .count) (r .stores .long .protections) .0 longs;
-    shortProtections = below8-is (r .stores .short .count) (r .stores .short .protections) .0 shorts;
-    mask = ltb→lt _ _ mask;
-    charged = leb→le _ _ charged;
-    discharged = leb→le _ _ discharged;
-    spans = spans .0 spans';
-    previous = measured-is (r .live .last) (r .live .watch .previous) .0 measured;
-    current = kept-is (r .live .watch .previous) .0 current;
-  }
+  to : Each T (liveTests (r .live)) → Each T (storesTests (r .stores)) → Sound r
+  to (low and high and last and charged and discharged and mask and measured and current and started and none)
+      (long and short and longs and shorts and none) = record {
+        battery = type-is (r .live .battery) .0 (low, high);
+        lastTime = leb→le _ _ last;
+        longCount = leb→le _ _ long;
+        shortCount = leb→le _ _ short;
+        longProtections = below8-is (r .stores .long .count) (r .stores .long .protections) .0 longs;
+        shortProtections = below8-is (r .stores .short .count) (r .stores .short .protections) .0 shorts;
+        mask = ltb→lt _ _ mask;
+        charged = leb→le _ _ charged;
+        discharged = leb→le _ _ discharged;
+        spans = spans .0 started;
+        previous = measured-is (r .live .last) (r .live .watch .previous) .0 measured;
+        current = kept-is (r .live .watch .previous) .0 current;
+      }
 
-  live-from : Sound r → Each (liveTests (r .live))
+  live-from : Sound r → Each T (liveTests (r .live))
   live-from s =
-      let type = type-is (r .live .battery) .1 (s .battery) in (
-        type .0,
-        (
-          type .1,
-          (
-            le→leb _ _ (s .lastTime),
-            (
-              le→leb _ _ (s .charged),
-              (
-                le→leb _ _ (s .discharged),
-                (
-                  lt→ltb _ _ (s .mask),
-                  (
-                    measured-is (r .live .last) (r .live .watch .previous) .1 (s .previous),
-                    (
-                      kept-is (r .live .watch .previous) .1 (s .current),
-                      (spans .1 (s .spans), tt),
-                    ),
-                  ),
-                ),
-              ),
-            ),
-          ),
-        ),
-      )
+      let type = type-is (r .live .battery) .1 (s .battery) in
+      type .0
+      and type .1
+      and le→leb _ _ (s .lastTime)
+      and le→leb _ _ (s .charged)
+      and le→leb _ _ (s .discharged)
+      and lt→ltb _ _ (s .mask)
+      and measured-is (r .live .last) (r .live .watch .previous) .1 (s .previous)
+      and kept-is (r .live .watch .previous) .1 (s .current)
+      and spans .1 (s .spans)
+      and none
 
-  stores-from : Sound r → Each (storesTests (r .stores))
+  stores-from : Sound r → Each T (storesTests (r .stores))
   stores-from s =
-      (le→leb _ _ (s .longCount), (le→leb _ _ (s .shortCount), (below8-is (r .stores .long .count) (r .stores .long .protections) .1 (s .longProtections), (below8-is (r .stores .short .count) (r .stores .short .protections) .1 (s .shortProtections), tt))))
+      le→leb _ _ (s .longCount)
+      and le→leb _ _ (s .shortCount)
+      and below8-is (r .stores .long .count) (r .stores .long .protections) .1 (s .longProtections)
+      and below8-is (r .stores .short .count) (r .stores .short .protections) .1 (s .shortProtections)
+      and none
 
   pub sound-is : T (sound r) ↔ Sound r
   unfolding soundLive soundStores

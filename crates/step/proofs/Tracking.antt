@@ -17,9 +17,9 @@ use Rattle.rules.specs.Soundness.{StartedBy}
 use Rattle.rules.specs.Test.{plausible}
 use Rattle.rules.specs.Protections.{Protection}
 use Rattle.rules.specs.Trips.{Measured, time, passes, reaches, endsNow, isTripped}
-use Rattle.step.specs.Fresh.{clearState}
+use Rattle.rules.proofs.Bools.{and-iff}
+use Rattle.rules.specs.Shown.{clearState}
 use Rattle.step.specs.Track.{spanAt, trippedAt, tracked, trackOne}
-use Rattle.step.proofs.Bools.{and-iff}
 
 -- ---- the times of measurements, newest first
 

@@ -36,9 +36,12 @@ measureLive t r l = record {
   tally = charge (l .watch .previous) (plausible r) t (l .tally);
 }
 
--- a session begins or ends
-abbrev pub beginLive : State → Milliseconds → Live → Live
-beginLive s t l = record { battery = l .battery; last = t; control = controlIn s; watch = noWatch; tally = l .tally }
+-- the border of a session: what power on and power loss write anew; type, tally and the long-term store stay
+abbrev pub borderLive : State → Milliseconds → Live → Live
+borderLive s t l = record { battery = l .battery; last = t; control = controlIn s; watch = noWatch; tally = l .tally }
+
+abbrev pub borderStores : Stores → Stores
+borderStores s = record { short = noShortTerm; long = s .long }
 
 -- a call that sets nothing but these
 abbrev pub setLive : Milliseconds → Control → Tally → Live → Live
@@ -72,8 +75,8 @@ overrideControl on c = record { state = c .state; command = c .command; overridi
 
 abbrev pub advanceLive : Event → Live → Live
 advanceLive (Measurement t r) l = measureLive t r l
-advanceLive (PowerOn t) l = beginLive Dormant t l
-advanceLive (PowerLoss t) l = beginLive Unpowered t l
+advanceLive (PowerOn t) l = borderLive Dormant t l
+advanceLive (PowerLoss t) l = borderLive Unpowered t l
 advanceLive (ContactorCommand t c) l = commandLive t c l
 advanceLive (StateRequest t q) l = setLive t (requestControl q (l .control .state) (l .control)) (l .tally) l
 advanceLive (BattleOverride t on) l = setLive t (overrideControl on (l .control)) (l .tally) l
@@ -81,15 +84,23 @@ advanceLive (ClearLongTerm t) l = setLive t (l .control) (l .tally) l
 
 -- ---- and of the stores: from the live part before it and after it
 
+-- by what a call can change of the stores: a measurement, the border of a session, a clear, or any other call
+abbrev pub byKind : {A : Type 0} → (measurement : Milliseconds → Reading → A) → (border clear other : A) → Event → A
+byKind measurement border clear other (Measurement t r) = measurement t r
+byKind measurement border clear other (PowerOn t) = border
+byKind measurement border clear other (PowerLoss t) = border
+byKind measurement border clear other (ContactorCommand t c) = other
+byKind measurement border clear other (StateRequest t q) = other
+byKind measurement border clear other (BattleOverride t on) = other
+byKind measurement border clear other (ClearLongTerm t) = clear
+
 abbrev pub advanceStores : Event → Live → Live → Stores → Stores
-advanceStores (Measurement t r) before after s =
-    pushAll (before .battery) t r (before .watch .protections) (after .watch .protections) s
-advanceStores (PowerOn t) before after s = record { short = noShortTerm; long = s .long }
-advanceStores (PowerLoss t) before after s = record { short = noShortTerm; long = s .long }
-advanceStores (ContactorCommand t c) before after s = s
-advanceStores (StateRequest t q) before after s = s
-advanceStores (BattleOverride t on) before after s = s
-advanceStores (ClearLongTerm t) before after s = record { short = s .short; long = noLongTerm }
+advanceStores e before after s =
+    byKind (λ t r. pushAll (before .battery) t r (before .watch .protections) (after .watch .protections) s)
+    (borderStores s)
+    (record { short = s .short; long = noLongTerm })
+    s
+    e
 
 abbrev pub advance : Record → Event → Record
 advance r e = record {

@@ -8,9 +8,7 @@ use Rattle.rules.specs.declared.states.State.{State}
 use Rattle.rules.specs.declared.states.State.the-variants.{Unpowered}
 use Rattle.rules.specs.declared.states.TestResult.the-variants.{NotRun}
 use Rattle.rules.specs.declared.calls.Command.the-variants.{Automated}
-use Rattle.rules.specs.declared.session.Span.the-variants.{Idle}
 use Rattle.rules.specs.declared.session.Previous.the-variants.{Nothing}
-use Rattle.rules.specs.declared.session.ProtectionState.{ProtectionState}
 use Rattle.rules.specs.declared.session.Watch.{Watch}
 use Rattle.rules.specs.declared.stores.LongTerm.{LongTerm}
 use Rattle.rules.specs.declared.stores.ShortTerm.{ShortTerm}
@@ -18,9 +16,7 @@ use Rattle.rules.specs.declared.battery.Control.{Control}
 use Rattle.rules.specs.declared.battery.Tally.{Tally}
 use Rattle.rules.specs.declared.battery.Record.{Record}
 use Rattle.rules.specs.declared.answers.Fresh.{Fresh}
-
-abbrev pub clearState : ProtectionState
-clearState = record { span = Idle; tripped = false }
+use Rattle.rules.specs.Shown.{clearState}
 
 abbrev pub noWatch : Watch
 noWatch = record { test = NotRun; mask = 0; failed = 0; previous = Nothing; protections = replicate 8 clearState }

@@ -9,24 +9,15 @@ use Rattle.rules.specs.declared.session.Span.{Span}
 use Rattle.rules.specs.declared.session.Span.the-variants.{Idle, Beyond, Within}
 use Rattle.rules.specs.declared.session.Previous.{Previous}
 use Rattle.rules.specs.declared.session.Previous.the-variants.{Nothing, Frame}
-use Rattle.rules.specs.declared.session.ProtectionState.{ProtectionState}
 use Rattle.rules.specs.declared.session.Watch.{Watch}
 use Rattle.rules.specs.declared.stores.Stores.{Stores}
 use Rattle.rules.specs.declared.battery.Live.{Live}
 use Rattle.rules.specs.declared.battery.Record.{Record}
 use Rattle.rules.specs.Quantities.{_≤ms_, missionTime}
-use Rattle.rules.specs.Test.{all, currentInRange}
+use Rattle.rules.specs.Test.{currentInRange}
 use Rattle.rules.specs.Soundness.{accountLimit}
-use Rattle.step.specs.Fresh.{clearState}
-
--- what is kept of a protection
-abbrev pub at : List ProtectionState → ℕ → ProtectionState
-at states protection = getD states protection clearState
-
--- a list of n, from what stands at each place
-abbrev pub listOf : {A : Type 0} → ℕ → (ℕ → A) → List A
-listOf zero f = []
-listOf (suc n) f = f zero ∷ listOf n (λ k. f (suc k))
+use Rattle.rules.specs.Lists.{tabulate, all}
+use Rattle.rules.specs.Shown.{keptAt}
 
 abbrev pub startedBy : Milliseconds → Span → Bool
 startedBy last Idle = true
@@ -41,10 +32,10 @@ abbrev pub currentKept : Previous → Bool
 currentKept Nothing = true
 currentKept (Frame t i) = currentInRange i
 
--- the numbers in the first places are at most 7
+-- the protections in the first places are at most 7
 abbrev pub below8 : ℕ → List ℕ → Bool
-below8 zero numbers = true
-below8 (suc n) numbers = below8 n numbers && leb (getD numbers n 0) 7
+below8 zero protections = true
+below8 (suc n) protections = below8 n protections && leb (getD protections n 0) 7
 
 -- what a power on or a power loss writes anew, at a last time
 abbrev pub watchTests : Milliseconds → Watch → List Bool
@@ -52,7 +43,7 @@ watchTests last w =
     ltb (w .mask) 8_192
     ∷ measuredBy last (w .previous)
     ∷ currentKept (w .previous)
-    ∷ all (listOf 8 (λ protection. startedBy last (at (w .protections) protection .span)))
+    ∷ all (tabulate 8 (λ protection. startedBy last (keptAt (w .protections) protection .span)))
     ∷ []
 
 abbrev pub liveTests : Live → List Bool

@@ -14,7 +14,8 @@ use Rattle.rules.specs.declared.session.ProtectionState.{ProtectionState}
 use Rattle.rules.specs.declared.session.Watch.{Watch}
 use Rattle.rules.specs.Test.{plausible, failedMask, failedCount}
 use Rattle.rules.specs.Protections.{Protection, rowOf}
-use Rattle.step.specs.Sound.{at, listOf}
+use Rattle.rules.specs.Shown.{keptAt}
+use Rattle.rules.specs.Lists.{tabulate}
 
 -- ---- one protection
 
@@ -53,7 +54,7 @@ trackOne p t r s = tracked (plausible r && p .beyond r) (plausible r && p .withi
 -- ---- all of them
 
 unfoldable pub trackAll : ℕ → Milliseconds → Reading → List ProtectionState → List ProtectionState
-trackAll battery t r states = listOf 8 (λ protection. trackOne (rowOf battery protection) t r (at states protection))
+trackAll battery t r states = tabulate 8 (λ protection. trackOne (rowOf battery protection) t r (keptAt states protection))
 
 unfoldable pub observe : ℕ → Milliseconds → Reading → Watch → Watch
 observe battery t r w = record {

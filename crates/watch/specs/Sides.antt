@@ -6,7 +6,8 @@ use lib.ListN.{getD}
 use Rattle.rules.specs.declared.units.Milliseconds.{Milliseconds}
 use Rattle.rules.specs.declared.session.ProtectionState.{ProtectionState}
 use Rattle.rules.specs.Protections.{rowOf}
-use Rattle.step.specs.Sound.{at, listOf}
+use Rattle.rules.specs.Shown.{keptAt}
+use Rattle.rules.specs.Lists.{tabulate}
 use Rattle.step.specs.Track.{tracked}
 use Rattle.protection.specs.declared.Side.{Side}
 
@@ -17,4 +18,4 @@ trackBy protection plausible side t s =
 
 unfoldable pub trackSides : Bool → List Side → Milliseconds → List ProtectionState → List ProtectionState
 trackSides plausible sides t states =
-    listOf 8 (λ protection. trackBy protection plausible (getD sides protection (record { beyond = false; within = false })) t (at states protection))
+    tabulate 8 (λ protection. trackBy protection plausible (getD sides protection (record { beyond = false; within = false })) t (keptAt states protection))

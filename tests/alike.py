@@ -1,14 +1,14 @@
 #!/usr/bin/env python3
 """Two lists of calls for a battery of type 3, alike in all but the on or off values of their override calls, that show what demand 3 says
 of two such runs: `alike_first` and `alike_second`; and up to where the contactors are last apart `apart_first` and `apart_second`.
-`checked` gives them as logs with what MODEL (peer's `model`) prints for each and holds after it, once these are as document 01 says.
-alike.py MODEL: checks them, and that the check refuses each of the pairs that `spoiled` makes."""
+`checked` gives them as logs with what the independent model prints for each and holds after it, once these are as document 01 says.
+alike.py: checks them, and that the check refuses each of the pairs that `spoiled` makes."""
 import itertools
-import subprocess
 import sys
 
-sys.dont_write_bytecode = True
-from calls import clear, command, measurement, override, power_loss, power_on, request  # noqa: E402
+import benchlog
+import model
+from benchlog import clear, command, measurement, override, power_loss, power_on, request
 
 LOW = [1699] + [3300] * 7  # beyond of 1 and, by the spread, of 7
 COLD = [-1, 20, 20, 20]  # with a current above 500, beyond of 3
@@ -53,12 +53,17 @@ FAILURE = [
 PAIRS = {"apart": FIRST_SESSION + SECOND_SESSION, "alike": FIRST_SESSION + SECOND_SESSION + FAILURE}
 
 
-def run(model, calls, which):
+def run(calls, which):
     """One of the two runs: its calls, and the text and the record that follow from them."""
     events = [override(call[0], call[1 + which]) if isinstance(call, tuple) else call for call in calls]
-    log = bytes([3]) + b"".join(events)
-    shown = [subprocess.run([model, *option], input=log, capture_output=True, check=True).stdout.decode() for option in ([], ["--view"])]
-    return events, *shown
+    log = benchlog.log(3, *events)
+    return events, model.text(log), model.view(log)
+
+
+def call_of(event):
+    """Its kind's name, its time and its values."""
+    record, _ = benchlog.read(event, 0)
+    return record.kind.name, record.time, record.values
 
 
 # ---- what document 01 says of two runs
@@ -71,12 +76,12 @@ def rows(text):
 def held(events, answers):
     """Command and override after each call, by the calls that were accepted and the states that they led to."""
     which, on, state = 0, 0, 0
-    for event, row in zip(events, answers):
+    for (name, _, values), row in zip(map(call_of, events), answers):
         if row[1] == 0:
-            if event[0] in (2, 3) or row[2] != state:
+            if name in ("power on", "power loss") or row[2] != state:
                 which, on = 0, on * (row[2] > 1)
-            which = event[5] if event[0] == 4 else which
-            on = event[5] if event[0] == 6 else on
+            which = values[-1] if name == "contactor command" else which
+            on = values[-1] if name == "battle override" else on
         state = row[2]
         yield which, on
 
@@ -84,8 +89,8 @@ def held(events, answers):
 def check_calls(first, second):
     """One length; in order the same kind and arguments, save the on or off value of an override call."""
     assert len(first) == len(second)
-    for a, b in zip(first, second):
-        assert a == b or a[0] == b[0] == 6 and a[:5] == b[:5] and {a[5], b[5]} == {0, 1}, (a, b)
+    for a, b in zip(map(call_of, first), map(call_of, second)):
+        assert a == b or a[0] == "battle override" and a[:2] == b[:2] and {*a[2], *b[2]} == {0, 1}, (a, b)
 
 
 def check_answers(first, second):
@@ -109,23 +114,20 @@ def check_answers(first, second):
 
 def entries(export):
     """Kind and protection of each entry of an export in hex."""
-    data = bytes.fromhex(export)
-    while data:
-        yield data[0], data[5]
-        data = data[{0x21: 10, 0x22: 6}[data[0]]:]
+    return [(entry.kind.name, entry.values[0]) for entry in benchlog.read_export(export)]
 
 
 def check_record(shown, events, text):
     """The record shows what the last answer, the last line and the accepted calls say."""
     answers, end = rows(text), text.splitlines()[-1].split()
     *_, (which, on) = held(events, answers)
-    accepted = [event for event, row in zip(events, answers) if row[1] == 0]
+    accepted = [call_of(event) for event, row in zip(events, answers) if row[1] == 0]
     assert [int(shown[n]) for n in ("state", "contactor", "override", "test")] == [answers[-1][i] for i in (2, 3, 5, 6)], shown
     assert int(shown["tripped"], 16) == answers[-1][4] and int(shown["failed"], 16).bit_count() == int(shown["failed_count"]), shown
     assert [int(shown[n]) for n in ("type", "command", "override")] == [3, which, on], shown
-    assert int(shown["commands"]) == sum(event[0] == 4 for event in accepted), shown
-    assert int(shown["last"]) == int.from_bytes(accepted[-1][1:5], "little"), shown
-    assert end == ["end", shown["charged"], shown["discharged"], str(len(list(entries(shown["long"]))))], shown
+    assert int(shown["commands"]) == sum(name == "contactor command" for name, _, _ in accepted), shown
+    assert int(shown["last"]) == accepted[-1][1], shown
+    assert end == ["end", shown["charged"], shown["discharged"], str(len(entries(shown["long"])))], shown
 
 
 def check(first, second):
@@ -149,18 +151,18 @@ def check_shown(name, met, record):
     assert set(zeros) == {"override", "contactor", *(("failed", "failed_count") if name == "apart" else ())}, zeros
     assert 1 < int(record["commands"]), record
     for store in "long", "short":
-        stored = list(entries(record[store]))
-        assert {number in (1, 3, 6, 7) for kind, number in stored if kind == 0x21} == {False, True}, stored
-    assert any(kind == 0x22 for kind, _ in stored), stored
+        stored = entries(record[store])
+        assert {number in (1, 3, 6, 7) for kind, number in stored if kind == "trip"} == {False, True}, stored
+    assert any(kind == "release" for kind, _ in stored), stored
 
 
-def checked(model):
+def checked():
     """Each log's name, its bytes, its text and its view."""
     for name, calls in PAIRS.items():
-        both = [run(model, calls, which) for which in (0, 1)]
+        both = [run(calls, which) for which in (0, 1)]
         check_shown(name, *check(*both))
         for which, (events, text, view) in zip(("first", "second"), both):
-            yield f"{name}_{which}", bytes([3]) + b"".join(events), text, view
+            yield f"{name}_{which}", benchlog.log(3, *events), text, view
 
 
 # ---- pairs that the check must refuse
@@ -172,8 +174,8 @@ def replaced(parts, place, part):
 def spoiled(first, second):
     """Each a name and a pair with one thing changed, in one run or alike in both."""
     (calls, text, view), lines = first, first[1].splitlines()
-    at = next(i for i, call in enumerate(calls) if call[0] == 1)
-    switch = next(i for i, call in enumerate(calls) if call[0] == 6)
+    names = [call_of(event)[0] for event in calls]
+    at, switch = names.index("measurement"), names.index("battle override")
     for name, other in [("a call left out", calls[:-1]), ("a current", replaced(calls, at, measurement(0, current=1))),
                         ("a command", [command(3000, 0) if call == command(3000, 1) else call for call in calls]),
                         ("an override's time", replaced(calls, switch, override(1, 1))),
@@ -198,11 +200,11 @@ def spoiled(first, second):
 
 
 def main():
-    model, tried = sys.argv[1], 0
-    for name, _, _, _ in checked(model):
+    tried = 0
+    for name, _, _, _ in checked():
         print(name, "as document 01 says")
     for name, calls in PAIRS.items():
-        both = [run(model, calls, which) for which in (0, 1)]
+        both = [run(calls, which) for which in (0, 1)]
         for what, *pair in [*spoiled(*both), ("override the same in both", both[0], both[0])]:
             tried += 1
             try:

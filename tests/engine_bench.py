@@ -3,13 +3,9 @@
 releases at two of three frames. The same bytes every time."""
 import pathlib
 import random
-import struct
 import sys
 
-
-def log(frames):
-    body = [bytes([1]), struct.pack("<BI", 2, 0), struct.pack("<BIB", 5, 0, 2)]
-    return b"".join(body + [struct.pack("<BI8Hi4h", 1, *frame) for frame in frames])
+from benchlog import log, measurement, power_on, request
 
 
 def quiet(count):
@@ -17,7 +13,7 @@ def quiet(count):
     for k in range(count):
         base = random.randint(2900, 3350)
         cells = [base + random.randint(0, 290) for _ in range(8)]
-        yield 1000 * k, *cells, random.randint(-119_999, 60_000), *[random.randint(250, 590) for _ in range(4)]
+        yield measurement(1000 * k, cells, random.randint(-119_999, 60_000), [random.randint(250, 590) for _ in range(4)])
 
 
 def trips(count):
@@ -27,14 +23,15 @@ def trips(count):
         high = k % 40 in (10, 11, 12)
         hot = k % 60 in (20, 21, 22, 23)
         cells = [random.randint(3660, 3700) if high else random.randint(3200, 3400) for _ in range(8)]
-        yield 1000 * k, *cells, -1_200_000 - k if short else 0, *[720 if hot else 300] * 4
+        yield measurement(1000 * k, cells, -1_200_000 - k if short else 0, 720 if hot else 300)
 
 
 def main():
     to = pathlib.Path(sys.argv[1])
     for name, frames in (("quiet", quiet), ("trips", trips)):
         random.seed(6)
-        (to / f"{name}.log").write_bytes(log(frames(4094)))
+        (to / f"{name}.log").write_bytes(log(1, power_on(0), request(0, 2), *frames(4094)))
 
 
-main()
+if __name__ == "__main__":
+    main()

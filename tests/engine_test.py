@@ -1,19 +1,15 @@
-#!/usr/bin/env python3
-"""engine_test.py VECTORS MODEL: writes what crates/engine_test runs on and must print. It runs on the logs of VECTORS, on logs made here
-that show one thing each, on the pairs of `alike`, and on a table of records for `stdin`. The text is what a reader answers
-step by step on the first two logs, by document 01's lengths; what MODEL (peer's `model`, written from document 01 alone) holds after each
-log made here and the vectors' .view files, each view with the number of entries in both stores after it; then the records, judged here by
-document 01's list "Unsound". Nothing of the engine's own is read."""
-import pathlib
+"""What crates/engine_test runs on and must print. It runs on the vectors, on logs made here that show one thing each, on the pairs of
+`alike`, and on a table of records for `stdin`. The text is what a reader answers step by step on the first two logs, by the layout in
+`benchlog`; what the independent model holds after each log made here and the vectors' .view files, each view with the number of entries in
+both stores after it; then the records, judged here by document 01's list "Unsound". Nothing of the engine's own is read."""
 import struct
-import subprocess
-import sys
 
-sys.dont_write_bytecode = True
-import alike  # noqa: E402
-from calls import clear, command, measurement, override, power_loss, power_on, request  # noqa: E402
+import alike
+import benchlog
+import model
+from benchlog import clear, command, measurement, override, power_loss, power_on, request
 
-HERE = pathlib.Path(__file__).resolve().parent.parent / "crates" / "engine_test"
+CRATE = "crates/engine_test"
 
 
 # ---- logs
@@ -195,21 +191,11 @@ def ceiling_lines():
     yield view(0, 0)
 
 
-def entries(export):
-    """How many entries an export in hex holds, by the lengths of "Stores and accounts"."""
-    count, at = 0, 0
-    data = b"" if export == "-" else bytes.fromhex(export)
-    while at < len(data):
-        at += {0x21: 10, 0x22: 6}[data[at]]
-        count += 1
-    assert at == len(data)
-    return count
-
-
 def counted(shown):
     """A view, and after it the number of entries in each store, which a view leaves out."""
     named = dict(s.split(" ", 1) for s in shown.splitlines())
-    return shown + f"long_count {entries(named['long'])}\nshort_count {entries(named['short'])}\n"
+    long_count, short_count = (len(benchlog.read_export(named[store])) for store in ("long", "short"))
+    return shown + f"long_count {long_count}\nshort_count {short_count}\n"
 
 
 def judge(name, text):
@@ -219,50 +205,41 @@ def judge(name, text):
         assert "\nfailed %04x\nfailed_count %d\n" % (MASKS[name], MASKS[name].bit_count()) in text, name
 
 
-BODIES = {1: 32, 2: 4, 3: 4, 4: 5, 5: 5, 6: 5, 7: 4}
-
-
 def step_lines(events):
-    """Ten reads, by the body lengths of "Seven kinds of call". The one refusal is of a command's last byte."""
-    log, at = bytes([1]) + b"".join(events), 1
+    """Ten reads. At the end, and at bytes that can't be read, the reader stays where it is."""
+    log, at = benchlog.log(1, *events), 1
     for _ in range(10):
-        if at == len(log):
-            answer = "end"
-        elif log[at] == 4 and log[at + 5] > 2:
-            answer = f"refused 4 at {at}"
-        else:
-            at += 1 + BODIES[log[at]]
-            answer = f"found, next {at}"
+        answer = "end"
+        try:
+            if at < len(log):
+                _, at = benchlog.read(log, at)
+                answer = f"found, next {at}"
+        except benchlog.Unreadable as refused:
+            answer = f"refused {refused.number} at {refused.at}"
         yield f"{answer}, position {at}, rest {len(log) - at}\n"
 
 
-def made(model):
+def made():
     """Each log made here or by `alike`, and what the model holds after it."""
     for name, events in LOGS.items():
-        log = bytes([1]) + b"".join(events)
-        yield name, log, subprocess.run([model, "--view"], input=log, capture_output=True, check=True).stdout.decode()
-    for name, log, _, shown in alike.checked(model):
+        log = benchlog.log(1, *events)
+        yield name, log, model.view(log)
+    for name, log, _, shown in alike.checked():
         yield name, log, shown
 
 
-def main():
-    vectors, model = pathlib.Path(sys.argv[1]), sys.argv[2]
-    names, text = [], []
-    for name, events in STEPS.items():
-        text += [f"{name}.log\n", *step_lines(events)]
-    for name, log, shown in made(model):
-        (HERE / "data" / f"{name}.log").write_bytes(log)
-        names.append(f"{name}.log")
+def files(vectors):
+    text = [line for name, events in STEPS.items() for line in (f"{name}.log\n", *step_lines(events))]
+    logs = {}
+    for name, log, shown in made():
+        logs[f"{name}.log"] = log
         text.append(f"{name}.log\n{counted(shown)}")
         judge(name, text[-1])
-    for log in sorted(vectors.glob("*.log")):
-        names.append(log.name)
-        text.append(f"{log.name}\n{counted(log.with_suffix('.view').read_text())}")
-    text += [s + "\n" for s in [*limit_lines(), *ceiling_lines()]]
-    (HERE / "stdin").write_bytes(b"".join(table()))
-    (HERE / "args").write_text("".join(n + "\n" for n in names))
-    (HERE / "stdout").write_text("".join(text))
-
-
-if __name__ == "__main__":
-    main()
+    for path in sorted(vectors.glob("*.log")):
+        logs[path.name] = path.read_bytes()
+        text.append(f"{path.name}\n{counted(path.with_suffix('.view').read_text())}")
+    text += [line + "\n" for line in [*limit_lines(), *ceiling_lines()]]
+    yield from ((f"{CRATE}/data/{name}", log) for name, log in logs.items())
+    yield f"{CRATE}/stdin", b"".join(table())
+    yield f"{CRATE}/args", "".join(name + "\n" for name in logs).encode()
+    yield f"{CRATE}/stdout", "".join(text).encode()

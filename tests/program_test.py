@@ -1,33 +1,17 @@
-#!/usr/bin/env python3
-"""make-program-test VECTORS: writes the logs, arguments and expected output of crates/program_test.
+"""What crates/program_test runs on and must print. The vectors go in with their .out as they are, and the examples with their tables, as
+copies, since rt follows no links. The other logs are made here, and what they print is said here too or worked out by the independent
+model, never by sixt."""
+import alike
+import benchlog
+import examples
+import model
+from benchlog import clear, command, measurement, override, power_loss, power_on, request
+from engine_test import sensors
 
-VECTORS is a folder of NAME.log and NAME.out that share no code with this project; they go in as they are. The other logs are made
-here, and what they print is said here too or worked out by the independent model (peer/target/release/model), never by sixt."""
-import pathlib
-import struct
-import subprocess
-import sys
+CRATE = "crates/program_test"
 
-sys.dont_write_bytecode = True
-import alike  # noqa: E402
-from calls import measurement  # noqa: E402
-from engine_test import sensors  # noqa: E402
-
-top = pathlib.Path(__file__).resolve().parent.parent
-crate = top / "crates/program_test"
-vectors = pathlib.Path(sys.argv[1])
-
-
-def timed(kind, time, *last):
-    return struct.pack("<BI", kind, time) + bytes(last)
-
-
-START = bytes([1]) + timed(2, 0) + timed(5, 0, 2)
+START = benchlog.log(1, power_on(0), request(0, 2))
 STARTED = "1 0 1 0 00 0 0\n2 0 2 0 00 0 0\n"
-
-
-def model(log):
-    return subprocess.run([top / "peer/target/release/model"], input=log, capture_output=True, check=True).stdout.decode()
 
 
 def long_log():
@@ -38,9 +22,9 @@ def long_log():
         cell = 3300 + 380 * ((i // 20) % 2) if i < 2000 else 3300 - 1650 * ((i // 30) % 2)
         log += measurement(250 * i, cell, 1000 * (i % 120) - 60000)
         if i % 97 == 0:
-            log += timed(6, 250 * i, i // 97 % 2)
+            log += override(250 * i, i // 97 % 2)
         if i % 331 == 0:
-            log += timed(3, 250 * i) + timed(2, 250 * i) + timed(5, 250 * i, 2)
+            log += power_loss(250 * i) + power_on(250 * i) + request(250 * i, 2)
     assert len(log) > 2 * 65536
     return log
 
@@ -85,19 +69,19 @@ def limits(battery):
         # a session each: beyond for a millisecond less than the hold (one frame where that is 0, and it trips), then not beyond for a
         # millisecond more
         for frame, length in [(beyond, hold - 1), *((frame, hold + 1) for frame in inside)]:
-            log += timed(2, t) + timed(5, t, 2) + measurement(t, **frame)
+            log += power_on(t) + request(t, 2) + measurement(t, **frame)
             log += measurement(t + length, **frame) if 0 < length else b""
             t += hold + 1
-            log += timed(3, t)
+            log += power_loss(t)
         # a trip; not within for the release time, which releases nothing; within for as long, which does, and not before
-        log += timed(2, t) + timed(5, t, 2) + measurement(t, **beyond) + measurement(t + hold, **beyond)
+        log += power_on(t) + request(t, 2) + measurement(t, **beyond) + measurement(t + hold, **beyond)
         t += hold + 1
         log += measurement(t, **outside) + measurement(t + release, **outside)
         t += release + 1
         log += measurement(t, **within) + measurement(t + release - 1, **within) + measurement(t + release, **within)
         t += release + 1
-        log += timed(3, t)
-    log += timed(2, t) + timed(5, t, 2)
+        log += power_loss(t)
+    log += power_on(t) + request(t, 2)
     return log + b"".join(measurement(t, **held) for _, held in sensors())
 
 
@@ -110,42 +94,47 @@ def border_log():
     # twenty bytes or more are left: events of five bytes (power ons, refused) and of six (overrides) fill them
     left = 65536 - len(log)
     fives = -left % 6
-    log += fives * timed(2, 250 * i) + (left - 5 * fives) // 6 * timed(6, 250 * i, 1)
+    log += fives * power_on(250 * i) + (left - 5 * fives) // 6 * override(250 * i, 1)
     assert len(log) == 65536
     for j in range(i + 1, i + 101):
         log += measurement(250 * j, 3300 + 380 * (j // 20 % 2), 1000 * (j % 120) - 60000)
-    return log + timed(3, 250 * (i + 100))
+    return log + power_loss(250 * (i + 100))
 
 
-# each log, and what it prints
-MADE = {
+# logs that can't be read to their end or have none, and what they print
+DAMAGED = {
     "empty": (b"", "stop 1 0\n"),
-    "type-0": (bytes([0]) + timed(2, 0), "stop 1 0\n"),
-    "type-4": (bytes([4]) + timed(2, 0), "stop 1 0\n"),
-    "type-255": (bytes([255]), "stop 1 0\n"),
-    "type-alone": (bytes([2]), "end 0 0 0\n"),
-    "unknown-kind": (START + timed(8, 0), STARTED + "stop 2 12\n"),
-    "bad-last-byte": (START + timed(4, 0, 3), STARTED + "stop 4 12\n"),
-    "cut-in-body": (START + timed(5, 0, 1)[:-1], STARTED + "stop 3 12\n"),
-    "cut-after-kind": (START + bytes([7]), STARTED + "stop 3 12\n"),
+    "type-0": (benchlog.log(0, power_on(0)), "stop 1 0\n"),
+    "type-4": (benchlog.log(4, power_on(0)), "stop 1 0\n"),
+    "type-255": (benchlog.log(255), "stop 1 0\n"),
+    "type-alone": (benchlog.log(2), "end 0 0 0\n"),
+    "unknown-kind": (START + bytes([8, 0, 0, 0, 0]), STARTED + "stop 2 12\n"),
+    "bad-last-byte": (START + command(0, 3), STARTED + "stop 4 12\n"),
+    "cut-in-body": (START + request(0, 1)[:-1], STARTED + "stop 3 12\n"),
+    "cut-after-kind": (START + clear(0)[:1], STARTED + "stop 3 12\n"),
     "cut-in-measurement": (START + measurement(1000) + measurement(2000)[:17], STARTED + "3 0 2 1 00 0 1\nstop 3 45\n"),
 }
-for name, log in ("long", long_log()), ("limits-1", limits(1)), ("limits-3", limits(3)), ("border", border_log()):
-    MADE[name] = (log, model(log))
-for name, log, text, _ in alike.checked(top / "peer/target/release/model"):
-    MADE[name] = (log, text)
 
-data = crate / "data"
-data.mkdir(parents=True, exist_ok=True)
-names, expected = [], ""
-for log in sorted(vectors.glob("*.log")):
-    names.append(log.name)
-    (data / log.name).write_bytes(log.read_bytes())
-    expected += f"== {log.name}\n" + log.with_suffix(".out").read_text()
-for name, (log, text) in MADE.items():
-    assert model(log) == text, name
-    names.append(name + ".log")
-    (data / (name + ".log")).write_bytes(log)
-    expected += f"== {name}.log\n" + text
-(crate / "args").write_text("".join(name + "\n" for name in names))
-(crate / "stdout").write_text(expected)
+
+def logs(vectors):
+    """Each log's name, its bytes and its text. The model is asked about every one, those whose text is said elsewhere too."""
+    for path in sorted(vectors.glob("*.log")):
+        yield path.stem, path.read_bytes(), path.with_suffix(".out").read_text()
+    for name, (log, text) in DAMAGED.items():
+        yield name, log, text
+    for name, log in ("long", long_log()), ("limits-1", limits(1)), ("limits-3", limits(3)), ("border", border_log()):
+        yield name, log, model.text(log)
+    for name, log, text, _ in alike.checked():
+        yield name, log, text
+    yield from examples.logs()
+
+
+def files(vectors):
+    names, expected = "", ""
+    for name, log, text in logs(vectors):
+        assert model.text(log) == text, name
+        yield f"{CRATE}/data/{name}.log", log
+        names += f"{name}.log\n"
+        expected += f"== {name}.log\n{text}"
+    yield f"{CRATE}/args", names.encode()
+    yield f"{CRATE}/stdout", expected.encode()

@@ -10,9 +10,10 @@ use lib.ListN.{length, getD, take, drop}
 use lib.Seq.{take-at}
 use mir.Syntax.{w32}
 use mir.Val.{SFits}
+use Rattle.rules.specs.Lists.{tabulate}
 use Rattle.rules.specs.Bytes.{InRange, entryForms}
 use Rattle.rules.specs.Numbers.{bytes, entryKind, entryValues}
-use Rattle.rules.specs.Shown.{tabulate, longEntry, longEntries, shortEntry, shortEntries, entryOf}
+use Rattle.rules.specs.Shown.{longEntry, longEntries, shortEntry, shortEntries, entryOf}
 use Rattle.rules.specs.Soundness.{ProtectionsBelow8}
 use Rattle.rules.specs.declared.battery.Record.{Record}
 use Rattle.rules.specs.declared.stores.Entry.{Entry}
@@ -34,15 +35,10 @@ stored-range : (release : Bool) (t : Milliseconds) (protection : ℕ) (value : �
 stored-range true t protection value time listed fits = entry-range (Release t protection) (time, omega arith) listed
 stored-range false t protection value time listed fits = entry-range (Trip t protection value) (time, omega arith, fits) listed
 
-range-append : (xs ys : List Entry) → AllInRange entries xs → AllInRange entries ys → AllInRange entries (xs ++ ys)
-range-append [] ys f g = g
-range-append (x ∷ xs) ys f g = (f .0, range-append xs ys (f .1) g)
-
 range-first : (place : ℕ → Entry) (n : ℕ) → ((i : ℕ) → i < n → InRange entryForms (entryKind (place i)) (entryValues (place i)))
     → AllInRange entries (tabulate n place)
 range-first place zero each = tt
-range-first place (suc n) each =
-    range-append (tabulate n place) (place n ∷ []) (range-first place n (λ i h. each i (omega (arith, h)))) (each n (omega arith), tt)
+range-first place (suc n) each = (each zero (omega arith), range-first (λ k. place (suc k)) n (λ i h. each (suc i) (omega (arith, h))))
 
 long-range : (s : LongTerm) → ProtectionsBelow8 (s .count) (s .protections) → InMachine (s .times) (s .values) → AllInRange entries (longEntries s)
 unfolding longEntries

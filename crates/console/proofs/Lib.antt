@@ -1,4 +1,3 @@
 pub mod Bounds
 pub mod Decided
-pub mod Front
 pub mod Unread

@@ -1,7 +1,6 @@
 // The program on file descriptors: it reads a log in parts and writes the lines that `report` makes of each. A run that fails says so on
 // standard error and writes no last line, so that what it wrote never looks like a whole table.
 mod parts;
-mod tail;
 
 use report::Why;
 

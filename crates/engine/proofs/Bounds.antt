@@ -1,13 +1,15 @@
--- What a sound record, and a command that is not refused, leave room for.
+-- A sound record has room for every call that is not refused: its accounts are within the limit of the whole mission time, and a command is
+-- refused at the ceiling of their count.
 use mathlib.Core.Path.{_≡_, refl, sym, subst}
 use mathlib.Core.Bool.{Bool, true, false, not, cond}
-use Prim.Native.Nat.{ℕ, _≤_, _<_}
+use Prim.Native.Nat.{ℕ}
 use native.Mathlib.Omega.{arith}
-use lib.Dec.{T, ltb, leb→le, ltb→lt}
+use lib.Dec.{T, leb, ltb, leb→le, le→leb}
 use Rattle.rules.specs.declared.units.Milliseconds.{Milliseconds}
 use Rattle.rules.specs.declared.states.State.{State}
 use Rattle.rules.specs.declared.calls.Command.{Command}
-use Rattle.rules.specs.declared.calls.Event.the-variants.{ContactorCommand}
+use Rattle.rules.specs.declared.calls.Event.{Event}
+use Rattle.rules.specs.declared.calls.Event.the-variants.{Measurement, PowerOn, PowerLoss, ContactorCommand, StateRequest, BattleOverride, ClearLongTerm}
 use Rattle.rules.specs.declared.battery.Live.{Live}
 use Rattle.rules.specs.Quantities.{_<ms_, missionTime}
 use Rattle.rules.specs.States.{isPowered, commandIn, commandCeiling, commandAllowed}
@@ -18,33 +20,45 @@ use Rattle.rules.proofs.Lists.{all-each}
 use Rattle.rules.proofs.Bools.{and-iff, is-true}
 use Rattle.step.specs.Sound.{liveTests, soundLive}
 use Rattle.step.specs.Refusal.{refusalLive}
+use Rattle.advance.specs.Room.{accountsRoom, hasRoom}
 
--- 2,000,000 × the mission time
-pub accounts-by : (l : Live) → soundLive l ≡ true → (l .tally .charged .0 ≤ accountLimit missionTime .0) × (l .tally .discharged .0 ≤ accountLimit missionTime .0)
+accounts-by : (l : Live) → soundLive l ≡ true → accountsRoom (l .tally) ≡ true
 unfolding soundLive
 accounts-by l e = go (all-each (liveTests l) .0 (subst T (sym e) tt))
   where
-    go : Each T (liveTests l) → (l .tally .charged .0 ≤ accountLimit missionTime .0) × (l .tally .discharged .0 ≤ accountLimit missionTime .0)
-    go (low and high and last and charged and discharged and rest) =
-        let by-mission = leb→le (l .last .0) (missionTime .0) last in
-        let into = leb→le (l .tally .charged .0) (accountLimit (l .last) .0) charged in
-        let out = leb→le (l .tally .discharged .0) (accountLimit (l .last) .0) discharged in
-        (omega arith, omega arith)
+    go : Each T (liveTests l) → accountsRoom (l .tally) ≡ true
+    go (low and high and by and into and out and rest) =
+        let last = leb→le (l .last .0) (missionTime .0) by in
+        let charged = leb→le (l .tally .charged .0) (accountLimit (l .last) .0) into in
+        let discharged = leb→le (l .tally .discharged .0) (accountLimit (l .last) .0) out in
+        let limit = accountLimit missionTime .0 in
+        is-true (accountsRoom (l .tally)) .0
+        (and-iff (leb (l .tally .charged .0) limit) (leb (l .tally .discharged .0) limit) .1
+        (le→leb (l .tally .charged .0) limit (omega arith), le→leb (l .tally .discharged .0) limit (omega arith)))
 
 -- a command that is allowed finds the count below its ceiling
-below : (s : State) (n : ℕ) (c : Command) → commandAllowed s n c ≡ true → n < commandCeiling
-below s n c h = ltb→lt n commandCeiling (and-iff (commandIn s c) (ltb n commandCeiling) .0 (is-true (commandAllowed s n c) .1 h) .1)
+below : (s : State) (n : ℕ) (c : Command) → commandAllowed s n c ≡ true → ltb n commandCeiling ≡ true
+below s n c h = is-true (ltb n commandCeiling) .0 (and-iff (commandIn s c) (ltb n commandCeiling) .0 (is-true (commandAllowed s n c) .1 h) .1)
 
 -- and one that is accepted is allowed: the table's other rows do not let it pass
-pub commands-by : (l : Live) (t : Milliseconds) (c : Command) → refusalLive l (ContactorCommand t c) ≡ 0 → l .tally .commands < commandCeiling
+commands-by : (l : Live) (t : Milliseconds) (c : Command) → refusalLive l (ContactorCommand t c) ≡ 0 → ltb (l .tally .commands) commandCeiling ≡ true
 unfolding refusal
 commands-by l t c h =
     go (t <ms l .last) (missionTime <ms t) (not (isPowered (l .control .state))) (commandAllowed (l .control .state) (l .tally .commands) c) refl h
   where
     go : (early late off allowed : Bool) → commandAllowed (l .control .state) (l .tally .commands) c ≡ allowed
-        → _≡_ {A = ℕ} (cond early 6 (cond late 7 (cond off 8 (cond (not allowed) 10 0)))) 0 → l .tally .commands < commandCeiling
+        → _≡_ {A = ℕ} (cond early 6 (cond late 7 (cond off 8 (cond (not allowed) 10 0)))) 0 → ltb (l .tally .commands) commandCeiling ≡ true
     go true late off allowed e z = absurd (omega arith)
     go false true off allowed e z = absurd (omega arith)
     go false false true allowed e z = absurd (omega arith)
     go false false false false e z = absurd (omega arith)
     go false false false true e z = below (l .control .state) (l .tally .commands) c e
+
+pub room-by : (e : Event) (l : Live) → soundLive l ≡ true → refusalLive l e ≡ 0 → hasRoom e l ≡ true
+room-by (Measurement t r) l sound accepted = accounts-by l sound
+room-by (PowerOn t) l sound accepted = refl
+room-by (PowerLoss t) l sound accepted = refl
+room-by (ContactorCommand t c) l sound accepted = commands-by l t c accepted
+room-by (StateRequest t q) l sound accepted = refl
+room-by (BattleOverride t on) l sound accepted = refl
+room-by (ClearLongTerm t) l sound accepted = refl

@@ -1,61 +1,22 @@
--- The engine's functions as the code goes through them, and its two parts put together.
+-- A call on the live part as the code goes through it, and the two parts of a call put together.
 use mathlib.Core.Path.{_≡_, refl, sym, ap, _∙_}
 use mathlib.Core.Bool.{Bool, true, false, cond, _&&_, true≢false}
-use mathlib.Core.List.{List}
-use Prim.Native.Nat.{ℕ, zero, suc, _+_, _-_}
-use native.Mathlib.Nat.{add-zero}
-use lib.IntN.{ℤ}
-use Rattle.rules.specs.declared.sensors.Reading.{Reading}
-use Rattle.rules.specs.declared.session.ProtectionState.{ProtectionState}
-use Rattle.rules.specs.declared.units.Milliamperes.{Milliamperes}
-use Rattle.rules.specs.declared.units.Milliseconds.{Milliseconds}
-use Rattle.rules.specs.declared.units.Charge.{Charge}
+use Prim.Native.Nat.{ℕ, zero, suc}
 use Rattle.rules.specs.declared.calls.Event.{Event}
 use Rattle.rules.specs.declared.calls.Event.the-variants.{Measurement, PowerOn, PowerLoss, ContactorCommand, StateRequest, BattleOverride, ClearLongTerm}
-use Rattle.rules.specs.declared.session.Previous.{Previous}
-use Rattle.rules.specs.declared.session.Previous.the-variants.{Nothing, Frame}
 use Rattle.rules.specs.declared.stores.Stores.{Stores}
-use Rattle.rules.specs.declared.battery.Tally.{Tally}
 use Rattle.rules.specs.declared.battery.Live.{Live}
 use Rattle.rules.specs.declared.battery.Record.{Record}
 use Rattle.rules.specs.declared.answers.Outcome.{Outcome}
-use Rattle.rules.specs.Quantities.{mAms, elapsed}
-use Rattle.rules.specs.Accounts.{positiveTimes, negativeTimes}
 use Rattle.step.specs.Sound.{soundLive, soundStores}
 use Rattle.step.specs.Refusal.{refusal, refusalLive}
-use Rattle.step.specs.Charge.{charge}
 use Rattle.step.specs.Call.{advanceLive, advanceStores, advance, answer, call}
-use Rattle.step.specs.Push.{pushAll}
-use Rattle.protection.specs.Rows.{valuesOf}
-use Rattle.store.specs.Changes.{pushAllOf}
-use Rattle.store.proofs.Measured.{unchanged, push-all-of}
+use Rattle.store.proofs.Measured.{unchanged}
+use Rattle.advance.specs.Room.{advanceWithin}
+use Rattle.writing.specs.Changes.{changesStores}
+use Rattle.engine.proofs.Bounds.{room-by}
 use Rattle.engine.specs.declared.Judged.{Judged}
-use Rattle.engine.specs.Judging.{changesStores, judgedBy, judged, joined}
-
--- ---- the accounts
-
-module _ (previous : Previous) (plausible : Bool) (t : Milliseconds) (n : Tally) where
-  pub charged : (start : Milliseconds) (i : Milliamperes) (d : Milliseconds) (a b : Charge) → previous ≡ Frame start i → plausible ≡ true
-      → d ≡ elapsed start t → a ≡ positiveTimes i d → b ≡ negativeTimes i d
-      → _≡_ {A = Tally} (record { commands = n .commands; charged = mAms (n .charged .0 + a .0); discharged = mAms (n .discharged .0 + b .0) })
-      (charge previous plausible t n)
-  unfolding charge
-  charged start i d a b e p d-is a-is b-is = rw (e, p, a-is, b-is, d-is) refl
-
-  pub not-charged : (start : Milliseconds) (i : Milliamperes) → previous ≡ Frame start i → plausible ≡ false → n ≡ charge previous plausible t n
-  unfolding charge
-  not-charged start i e p = simp (e, p, add-zero)
-
-  pub no-neighbour : previous ≡ Nothing → n ≡ charge previous plausible t n
-  unfolding charge
-  no-neighbour e = simp (e, add-zero)
-
--- ---- what a measurement writes
-
-pub pushed : (battery : ℕ) (t : Milliseconds) (r : Reading) (before after : List ProtectionState) (s : Stores) (values : List ℤ) → values ≡ valuesOf battery r
-    → (n : Stores) → n ≡ pushAllOf t values before after s → n ≡ pushAll battery t r before after s
-unfolding valuesOf
-pushed battery t r before after s values v n e = e ∙ ap (λ (x : List ℤ). pushAllOf t x before after s) v ∙ push-all-of battery t r before after s
+use Rattle.engine.specs.Judging.{judgedBy, judged, joined}
 
 -- ---- a call on the live part
 
@@ -63,9 +24,6 @@ module _ (l : Live) (s : Stores) (e : Event) (a b : Bool) (a-is : a ≡ soundLiv
   left : (x y : Bool) → (x && y) ≡ true → x ≡ true
   left true y h = refl
   left false y h = h
-
-  pub live-sound : (a && b) ≡ true → soundLive l ≡ true
-  live-sound h = sym a-is ∙ left a b h
 
   by-refusal : (k : ℕ) → refusal (record { live = l; stores = s }) e ≡ k → judgedBy k l e ≡ judged l s e
   unfolding judged
@@ -75,9 +33,12 @@ module _ (l : Live) (s : Stores) (e : Event) (a b : Bool) (a-is : a ≡ soundLiv
   of-sound h = rw (← a-is, ← b-is, h) refl
 
   module _ (fine : (a && b) ≡ true) (n : ℕ) (n-is : n ≡ refusalLive l e) where
-    pub accepted : n ≡ 0 → (after : Live) (changed : Bool) → after ≡ advanceLive e l → changed ≡ changesStores e l after
+    pub accepted : n ≡ 0 → (after : Live) (changed : Bool) → after ≡ advanceWithin e l → changed ≡ changesStores e l after
         → _≡_ {A = Judged} (record { refusal = 0; live = after; changed = changed }) (judged l s e)
-    accepted z after changed is t = rw (t, is) (by-refusal 0 (of-sound fine ∙ sym n-is ∙ z))
+    accepted z after changed is t =
+        let room = room-by e l (sym a-is ∙ left a b fine) (sym n-is ∙ z) in
+        let advanced : after ≡ advanceLive e l = is ∙ rw room refl in
+        rw (t, advanced) (by-refusal 0 (of-sound fine ∙ sym n-is ∙ z))
 
     pub refused : ¬ (n ≡ 0) → _≡_ {A = Judged} (record { refusal = n; live = l; changed = false }) (judged l s e)
     refused z = go n (of-sound fine ∙ sym n-is) z

@@ -1,20 +1,15 @@
 -- A call in two parts: what it makes of the live part, and what it then writes to the stores.
 use Prim.Native.Nat.{ℕ, zero, suc}
-use mathlib.Core.Bool.{Bool, true, false, cond}
+use mathlib.Core.Bool.{false, cond}
 use Rattle.rules.specs.declared.calls.Event.{Event}
 use Rattle.rules.specs.declared.stores.Stores.{Stores}
 use Rattle.rules.specs.declared.battery.Live.{Live}
 use Rattle.rules.specs.declared.battery.Record.{Record}
 use Rattle.rules.specs.declared.answers.Outcome.{Outcome}
 use Rattle.step.specs.Refusal.{refusal}
-use Rattle.step.specs.Call.{byKind, advanceLive, advanceStores}
-use Rattle.store.specs.Changes.{changedBelow}
+use Rattle.step.specs.Call.{advanceLive, advanceStores}
+use Rattle.writing.specs.Changes.{changesStores}
 use Rattle.engine.specs.declared.Judged.{Judged}
-
--- whether an accepted call changes the stores
-abbrev pub changesStores : Event → Live → Live → Bool
-changesStores e before after =
-    byKind (λ t r. changedBelow (before .watch .protections) (after .watch .protections) 8) true true false e
 
 abbrev pub judgedBy : ℕ → Live → Event → Judged
 judgedBy zero l e = record { refusal = 0; live = advanceLive e l; changed = changesStores e l (advanceLive e l) }

@@ -1,8 +1,7 @@
-pub mod Putting
 pub mod Answers
-pub mod Lining
 pub mod Going
 pub mod LastLine
+pub mod Turns
 pub mod Whole
 pub mod Joined
 pub mod Exists

@@ -6,11 +6,12 @@ use crate::print;
 use rules::calls::Command;
 use rules::calls::Event;
 use rules::calls::Request;
+use rules::limits::COMMAND_CEILING;
 use rules::units::Milliseconds;
 
 pub fn run() {
     let t = Milliseconds(1_000);
-    let r = edit::commands(4_294_967_294);
+    let r = edit::commands(COMMAND_CEILING - 1);
     print::text(b"ceiling\n");
     let a = limits::call(b"open ", r, Event::ContactorCommand(t, Command::Open));
     print::text(b"\n");

@@ -2,6 +2,8 @@
 use rules::battery::Live;
 use rules::battery::Record;
 use rules::battery::Tally;
+use rules::limits::LONG_TERM_ENTRIES;
+use rules::limits::SHORT_TERM_ENTRIES;
 use rules::session::Previous;
 use rules::session::ProtectionState;
 use rules::session::Span;
@@ -91,7 +93,7 @@ fn same_long(a: LongTerm, b: LongTerm) -> bool {
     let w = b.values;
     let mut same = a.count == b.count;
     let mut i: usize = 0;
-    while i < 64 {
+    while i < LONG_TERM_ENTRIES {
         same = same & (t[i].0 == u[i].0) & (p[i] == q[i]) & (v[i] == w[i]);
         i += 1;
     }
@@ -109,7 +111,7 @@ fn same_short(a: ShortTerm, b: ShortTerm) -> bool {
     let y = b.releases;
     let mut same = a.count == b.count;
     let mut i: usize = 0;
-    while i < 16 {
+    while i < SHORT_TERM_ENTRIES {
         same = same & (t[i].0 == u[i].0) & (p[i] == q[i]) & (v[i] == w[i]) & (x[i] == y[i]);
         i += 1;
     }

@@ -3,6 +3,8 @@ use rules::battery::Control;
 use rules::battery::Live;
 use rules::battery::Record;
 use rules::battery::Tally;
+use rules::limits::LONG_TERM_ENTRIES;
+use rules::limits::SHORT_TERM_ENTRIES;
 use rules::session::Previous;
 use rules::session::ProtectionState;
 use rules::session::Span;
@@ -121,7 +123,7 @@ pub fn long(count: usize, place: usize, protection: u8) -> Record {
     let s = r.stores;
     let f = s.long;
     let mut protections = f.protections;
-    if place < 64 {
+    if place < LONG_TERM_ENTRIES {
         protections[place] = protection;
     }
     let long = LongTerm {
@@ -139,7 +141,7 @@ pub fn short(count: usize, place: usize, protection: u8) -> Record {
     let f = s.short;
     let mut protections = f.protections;
     let mut releases = f.releases;
-    if place < 16 {
+    if place < SHORT_TERM_ENTRIES {
         protections[place] = protection;
         releases[place] = true;
     }

@@ -11,6 +11,8 @@ use crate::print;
 use rules::answers::Written;
 use rules::battery::Record;
 use rules::calls::Event;
+use rules::limits::LONG_TERM_ENTRIES;
+use rules::limits::SHORT_TERM_ENTRIES;
 use rules::session::Span;
 use rules::units::Milliseconds;
 use words::read;
@@ -152,10 +154,10 @@ fn buffers() {
     let mut short = [0xeeu8; 156];
     let mut less_short = [0xeeu8; 155];
     print::text(b"buffers");
-    long_into(edit::long(64, 0, 0), &mut long);
-    long_into(edit::long(64, 0, 0), &mut less_long);
-    short_into(edit::short(16, 0, 0), &mut short);
-    short_into(edit::short(16, 0, 0), &mut less_short);
+    long_into(edit::long(LONG_TERM_ENTRIES, 0, 0), &mut long);
+    long_into(edit::long(LONG_TERM_ENTRIES, 0, 0), &mut less_long);
+    short_into(edit::short(SHORT_TERM_ENTRIES, 0, 0), &mut short);
+    short_into(edit::short(SHORT_TERM_ENTRIES, 0, 0), &mut less_short);
     print::text(b"\n");
 }
 

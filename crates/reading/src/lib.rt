@@ -8,25 +8,19 @@ ghost use Rattle.rules.specs.Quantities.{chargeRating};
 ghost use Rattle.rules.specs.Test.{cellInRange, currentInRange, temperatureInRange, plausible, maskOf, failedMask};
 ghost use Rattle.rules.specs.Protections.{higher, lower, hotter, colder, picked, extremes, permitted};
 ghost use Rattle.reading.specs.Ranges.{extremesInRange};
+use rules::limits::GREATEST_CELL;
+use rules::limits::GREATEST_CURRENT;
+use rules::limits::GREATEST_TEMPERATURE;
+use rules::limits::LEAST_CELL;
+use rules::limits::LEAST_CURRENT;
+use rules::limits::LEAST_TEMPERATURE;
 use rules::sensors::Extremes;
 use rules::sensors::Reading;
 use rules::units::DeciCelsius;
 use rules::units::Milliamperes;
 use rules::units::Millivolts;
 
-// ---- the built-in test: the ranges of plausible values
-
-const LEAST_CELL: Millivolts = Millivolts(500);
-
-const GREATEST_CELL: Millivolts = Millivolts(5000);
-
-const LEAST_CURRENT: Milliamperes = Milliamperes(-2000000);
-
-const GREATEST_CURRENT: Milliamperes = Milliamperes(2000000);
-
-const LEAST_TEMPERATURE: DeciCelsius = DeciCelsius(-540);
-
-const GREATEST_TEMPERATURE: DeciCelsius = DeciCelsius(880);
+// ---- the built-in test
 
 fn cell_in_range(v: Millivolts) -> bool
     ensures { λ r. ⌜ r ≡ cellInRange v ⌝ }

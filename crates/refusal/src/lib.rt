@@ -9,23 +9,15 @@ use rules::battery::Live;
 use rules::calls::Command;
 use rules::calls::Event;
 use rules::calls::Request;
+use rules::limits::COMMAND_CEILING;
+use rules::limits::MISSION_TIME;
+use rules::refusals::OTHER_NOT_ALLOWED;
+use rules::refusals::REQUEST_NOT_ALLOWED;
+use rules::refusals::TIME_ABOVE_MISSION;
+use rules::refusals::TIME_BELOW_LAST;
+use rules::refusals::WRONG_POWER;
 use rules::states::State;
 use rules::units::Milliseconds;
-
-// Document 01's numbers for a call.
-const TIME_BELOW_LAST: u8 = 6;
-
-const TIME_ABOVE_MISSION: u8 = 7;
-
-const WRONG_POWER: u8 = 8;
-
-const REQUEST_NOT_ALLOWED: u8 = 9;
-
-const OTHER_NOT_ALLOWED: u8 = 10;
-
-const MISSION_TIME: Milliseconds = Milliseconds(345_600_000);
-
-const COMMAND_CEILING: u32 = 4_294_967_295;
 
 fn time_of(e: Event) -> Milliseconds
     ensures { λ r. ⌜ r ≡ timeOf e ⌝ }

@@ -3,6 +3,7 @@
 use Prim.Native.Nat.{ℕ, _*_, _≤_, _<_}
 use mathlib.Core.List.{List}
 use lib.Dec.{T}
+use lib.IntN.{natAbs}
 use lib.ListN.{getD}
 use Rattle.rules.specs.declared.units.Milliseconds.{Milliseconds}
 use Rattle.rules.specs.declared.units.Charge.{Charge}
@@ -12,7 +13,7 @@ use Rattle.rules.specs.declared.session.Previous.{Previous}
 use Rattle.rules.specs.declared.session.Previous.the-variants.{Nothing, Frame}
 use Rattle.rules.specs.declared.battery.Record.{Record}
 use Rattle.rules.specs.Quantities.{mAms, missionTime, isType}
-use Rattle.rules.specs.Test.{currentInRange}
+use Rattle.rules.specs.Test.{greatestCurrent, currentInRange}
 use Rattle.rules.specs.Shown.{keptOf}
 
 -- a span start is not later than the last time
@@ -34,9 +35,9 @@ KeptInRange (Frame t i) = T (currentInRange i)
 abbrev pub ProtectionsBelow8 : ℕ → List ℕ → Type 0
 ProtectionsBelow8 count numbers = (place : ℕ) → place < count → getD numbers place 0 ≤ 7
 
--- the most that an account may hold at a last time
+-- the most that an account may hold at a last time: "2,000,000 × last time", the greatest current all that time
 abbrev pub accountLimit : Milliseconds → Charge
-accountLimit last = mAms (2_000_000 * last .0)
+accountLimit last = mAms (natAbs (greatestCurrent .0) * last .0)
 
 -- document 01: "Unsound"; each part is one condition of its list
 pub record Sound (r : Record) : Type 0 where

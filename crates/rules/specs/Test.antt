@@ -9,14 +9,17 @@ use Rattle.rules.specs.declared.units.Milliamperes.{Milliamperes}
 use Rattle.rules.specs.declared.units.DeciCelsius.{DeciCelsius}
 use Rattle.rules.specs.declared.sensors.Reading.{Reading}
 use Rattle.rules.specs.Lists.{all}
-use Rattle.rules.specs.Quantities.{mV, mA, dC, _≤mV_, _≤mA_, _≤dC_}
+use Rattle.rules.specs.Quantities.{mV, mA, dC, _≤mV_, _≤mA_, _≤dC_, negated}
 
 -- "every cell is 500 to 5,000, the current -2,000,000 to 2,000,000 and every temperature -540 to 880"
 abbrev pub cellInRange : Millivolts → Bool
 cellInRange v = (mV 500 ≤mV v) && (v ≤mV mV 5_000)
 
+abbrev pub greatestCurrent : Milliamperes
+greatestCurrent = mA (pos 2_000_000)
+
 abbrev pub currentInRange : Milliamperes → Bool
-currentInRange i = (mA (negℤ (pos 2_000_000)) ≤mA i) && (i ≤mA mA (pos 2_000_000))
+currentInRange i = (negated greatestCurrent ≤mA i) && (i ≤mA greatestCurrent)
 
 abbrev pub temperatureInRange : DeciCelsius → Bool
 temperatureInRange t = (dC (negℤ (pos 540)) ≤dC t) && (t ≤dC dC (pos 880))

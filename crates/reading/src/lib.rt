@@ -1,12 +1,10 @@
-// One measurement: which sensors failed, its extremes, and the charge current that it permits.
+// One measurement: which sensors failed, and whether it is plausible.
 ghost use mathlib.Core.Bool.{cond};
 ghost use mathlib.Core.List.{[], _∷_};
 ghost use mathlib.Core.Path.{_≡_};
 ghost use Prim.Native.Nat.{_≤_};
 ghost use lib.Count.{ones};
-ghost use Rattle.rules.specs.Quantities.{chargeRating};
 ghost use Rattle.rules.specs.Test.{cellInRange, currentInRange, temperatureInRange, plausible, maskOf, failedMask};
-ghost use Rattle.rules.specs.Protections.{higher, lower, hotter, colder, picked, extremes, permitted};
 ghost use Rattle.reading.specs.Ranges.{extremesInRange};
 use rules::limits::GREATEST_CELL;
 use rules::limits::GREATEST_CURRENT;
@@ -90,80 +88,6 @@ pub fn failed_count(mask: u16) -> u32
     u16::count_ones(mask)
 }
 
-// ---- the extremes
-
-fn higher(a: Millivolts, b: Millivolts) -> Millivolts
-    ensures { λ r. ⌜ r ≡ higher a b ⌝ }
-{
-    if a.0 < b.0 { b } else { a }
-}
-
-fn lower(a: Millivolts, b: Millivolts) -> Millivolts
-    ensures { λ r. ⌜ r ≡ lower a b ⌝ }
-{
-    if b.0 < a.0 { b } else { a }
-}
-
-fn hotter(a: DeciCelsius, b: DeciCelsius) -> DeciCelsius
-    ensures { λ r. ⌜ r ≡ hotter a b ⌝ }
-{
-    if a.0 < b.0 { b } else { a }
-}
-
-fn colder(a: DeciCelsius, b: DeciCelsius) -> DeciCelsius
-    ensures { λ r. ⌜ r ≡ colder a b ⌝ }
-{
-    if b.0 < a.0 { b } else { a }
-}
-
-// Of four; the last may be what others left.
-fn highest(a: Millivolts, b: Millivolts, c: Millivolts, d: Millivolts) -> Millivolts
-    ensures { λ r. ⌜ r ≡ picked higher a (b ∷ c ∷ d ∷ []) ⌝ }
-{
-    higher(a, higher(b, higher(c, d)))
-}
-
-fn lowest(a: Millivolts, b: Millivolts, c: Millivolts, d: Millivolts) -> Millivolts
-    ensures { λ r. ⌜ r ≡ picked lower a (b ∷ c ∷ d ∷ []) ⌝ }
-{
-    lower(a, lower(b, lower(c, d)))
-}
-
-fn hottest(a: DeciCelsius, b: DeciCelsius, c: DeciCelsius, d: DeciCelsius) -> DeciCelsius
-    ensures { λ r. ⌜ r ≡ picked hotter a (b ∷ c ∷ d ∷ []) ⌝ }
-{
-    hotter(a, hotter(b, hotter(c, d)))
-}
-
-fn coldest(a: DeciCelsius, b: DeciCelsius, c: DeciCelsius, d: DeciCelsius) -> DeciCelsius
-    ensures { λ r. ⌜ r ≡ picked colder a (b ∷ c ∷ d ∷ []) ⌝ }
-{
-    colder(a, colder(b, colder(c, d)))
-}
-
-pub fn extremes(r: Reading) -> Extremes
-    ensures { λ e. ⌜ e ≡ extremes r ⌝ }
-{
-    let high = highest(r.cell3, r.cell4, r.cell5, higher(r.cell6, r.cell7));
-    let low = lowest(r.cell3, r.cell4, r.cell5, lower(r.cell6, r.cell7));
-    Extremes {
-        highest: highest(r.cell0, r.cell1, r.cell2, high),
-        lowest: lowest(r.cell0, r.cell1, r.cell2, low),
-        hottest: hottest(
-            r.temperature0,
-            r.temperature1,
-            r.temperature2,
-            r.temperature3,
-        ),
-        coldest: coldest(
-            r.temperature0,
-            r.temperature1,
-            r.temperature2,
-            r.temperature3,
-        ),
-    }
-}
-
 // ---- plausible or not, by the extremes: the mask is wanted only where a sensor failed
 
 fn in_range(e: Extremes, i: Milliamperes) -> bool
@@ -178,34 +102,6 @@ fn in_range(e: Extremes, i: Milliamperes) -> bool
 pub fn plausible(r: Reading) -> bool
     ensures { λ ok. ⌜ ok ≡ plausible r ⌝ }
 {
-    let e = extremes(r);
+    let e = extremes::extremes(r);
     in_range(e, r.current)
-}
-
-// ---- the permitted charge current
-
-fn charge_rating(battery: u8) -> Milliamperes
-    ensures { λ r. ⌜ r ≡ chargeRating battery ⌝ }
-{
-    if battery == 3 {
-        Milliamperes(90_000)
-    } else {
-        Milliamperes(60_000)
-    }
-}
-
-pub fn permitted(battery: u8, coldest: DeciCelsius) -> Milliamperes
-    ensures { λ r. ⌜ r ≡ permitted battery coldest ⌝ }
-{
-    let rating = charge_rating(battery);
-    let c = coldest.0;
-    if c < 0 {
-        return Milliamperes(0);
-    }
-    let n = c as u64;
-    if n < 250 {
-        let k = n + 50;
-        return Milliamperes(((rating.0 as u64) * (k * k) / 90_000) as i32);
-    }
-    rating
 }

@@ -1,6 +1,8 @@
 // What accepted calls other than measurements and contactor commands make of the live part of a record.
 ghost use mathlib.Core.Path.{_≡_};
-ghost use Rattle.step.specs.Call.{borderLive, setLive, enterState, requestControl, overrideControl};
+ghost use mathlib.Core.Bool.{cond};
+ghost use Rattle.rules.specs.States.{requested, isChange, entersDormant};
+ghost use Rattle.step.specs.Call.{borderLive, setLive, requestControl, overrideControl};
 use rules::battery::Control;
 use rules::battery::Live;
 use rules::calls::Command;
@@ -22,47 +24,82 @@ pub fn begin(state: State, t: Milliseconds, l: Live) -> Live
     }
 }
 
-fn enter(state: State, off: bool, c: Control) -> Control
-    ensures { λ n. ⌜ n ≡ enterState state off c ⌝ }
+fn state_named(q: Request) -> State
+    ensures { λ s. ⌜ s ≡ requested q ⌝ }
 {
-    Control {
-        state,
-        command: Command::Automated,
-        overriding: !off & c.overriding,
+    match q {
+        Request::Dormant => State::Dormant,
+        Request::Operational => State::Operational,
+        Request::Maintenance => State::Maintenance,
     }
 }
 
-fn requested(q: Request, s: State, c: Control) -> Control
-    ensures { λ n. ⌜ n ≡ requestControl q s c ⌝ }
+fn is_change(s: State, q: Request) -> bool
+    ensures { λ b. ⌜ b ≡ isChange s q ⌝ }
+{
+    match s {
+        State::Unpowered => match q {
+            Request::Dormant => true,
+            Request::Operational => true,
+            Request::Maintenance => true,
+        },
+        State::Dormant => match q {
+            Request::Dormant => false,
+            Request::Operational => true,
+            Request::Maintenance => true,
+        },
+        State::Operational => match q {
+            Request::Dormant => true,
+            Request::Operational => false,
+            Request::Maintenance => true,
+        },
+        State::Maintenance => match q {
+            Request::Dormant => true,
+            Request::Operational => true,
+            Request::Maintenance => false,
+        },
+    }
+}
+
+fn enters_dormant(s: State, q: Request) -> bool
+    ensures { λ b. ⌜ b ≡ entersDormant s q ⌝ }
 {
     match q {
         Request::Dormant => match s {
-            State::Unpowered => enter(State::Dormant, true, c),
-            State::Dormant => c,
-            State::Operational => enter(State::Dormant, true, c),
-            State::Maintenance => enter(State::Dormant, true, c),
+            State::Unpowered => true,
+            State::Dormant => false,
+            State::Operational => true,
+            State::Maintenance => true,
         },
-        Request::Operational => match s {
-            State::Unpowered => enter(State::Operational, false, c),
-            State::Dormant => enter(State::Operational, false, c),
-            State::Operational => c,
-            State::Maintenance => enter(State::Operational, false, c),
-        },
-        Request::Maintenance => match s {
-            State::Unpowered => enter(State::Maintenance, false, c),
-            State::Dormant => enter(State::Maintenance, false, c),
-            State::Operational => enter(State::Maintenance, false, c),
-            State::Maintenance => c,
-        },
+        Request::Operational => false,
+        Request::Maintenance => false,
+    }
+}
+
+fn command_after(change: bool, c: Command) -> Command
+    ensures { λ n. ⌜ n ≡ cond change Command.Automated c ⌝ }
+{
+    if change { Command::Automated } else { c }
+}
+
+fn requested(q: Request, c: Control) -> Control
+    ensures { λ n. ⌜ n ≡ requestControl q c ⌝ }
+{
+    let s = c.state;
+    let was = c.command;
+    let state = state_named(q);
+    let command = command_after(is_change(s, q), was);
+    Control {
+        state,
+        command,
+        overriding: !enters_dormant(s, q) & c.overriding,
     }
 }
 
 pub fn request(t: Milliseconds, q: Request, l: Live) -> Live
-    ensures { λ n. ⌜ n ≡ setLive t (requestControl q (l .control .state) (l .control)) (l .tally) l ⌝ }
+    ensures { λ n. ⌜ n ≡ setLive t (requestControl q (l .control)) (l .tally) l ⌝ }
 {
-    let c = l.control;
-    let s = c.state;
-    let control = requested(q, s, c);
+    let control = requested(q, l.control);
     Live {
         last: t,
         control,

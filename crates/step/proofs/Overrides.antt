@@ -4,19 +4,14 @@ use mathlib.Core.Bool.{Bool, false}
 use mathlib.Core.List.{List, _∷_}
 use Prim.Native.Nat.{ℕ, zero, suc}
 use Rattle.rules.specs.declared.units.Milliseconds.{Milliseconds}
-use Rattle.rules.specs.declared.states.State.{State}
-use Rattle.rules.specs.declared.states.State.the-variants.{Unpowered, Dormant, Operational, Maintenance}
-use Rattle.rules.specs.declared.calls.Request.{Request}
-use Rattle.rules.specs.declared.calls.Request.the-variants.{Dormant as ToDormant, Operational as ToOperational, Maintenance as ToMaintenance}
 use Rattle.rules.specs.declared.calls.Event.{Event}
 use Rattle.rules.specs.declared.calls.Event.the-variants.{Measurement, PowerOn, PowerLoss, ContactorCommand, StateRequest, BattleOverride, ClearLongTerm}
-use Rattle.rules.specs.declared.battery.Control.{Control}
 use Rattle.rules.specs.declared.battery.Record.{Record}
 use Rattle.rules.specs.Alike.{Alike, none, same, switched}
 use Rattle.step.specs.Sound.{soundLive}
 use Rattle.rules.specs.Refusals.{refusal as refusalByTable}
 use Rattle.step.specs.Refusal.{refusal}
-use Rattle.step.specs.Call.{requestControl, advance, answer, call, run, answers}
+use Rattle.step.specs.Call.{advance, answer, call, run, answers}
 use Rattle.step.proofs.Closing.{overridden}
 
 -- the record as if override didn't exist
@@ -25,34 +20,12 @@ erase r = record { live = overridden false (r .live); stores = r .stores }
 
 -- ---- an accepted call
 
-off : Control → Control
-off c = record { state = c .state; command = c .command; overriding = false }
-
-request-off : (q : Request) (s : State) (c : Control) → off (requestControl q s c) ≡ off (requestControl q s (off c))
-unfolding off
-request-off ToDormant Unpowered c = refl
-request-off ToDormant Dormant c = refl
-request-off ToDormant Operational c = refl
-request-off ToDormant Maintenance c = refl
-request-off ToOperational Unpowered c = refl
-request-off ToOperational Dormant c = refl
-request-off ToOperational Operational c = refl
-request-off ToOperational Maintenance c = refl
-request-off ToMaintenance Unpowered c = refl
-request-off ToMaintenance Dormant c = refl
-request-off ToMaintenance Operational c = refl
-request-off ToMaintenance Maintenance c = refl
-
 erase-advance : (r : Record) (e : Event) → erase (advance r e) ≡ erase (advance (erase r) e)
-unfolding off
 erase-advance r (Measurement t m) = refl
 erase-advance r (PowerOn t) = refl
 erase-advance r (PowerLoss t) = refl
 erase-advance r (ContactorCommand t c) = refl
-erase-advance r (StateRequest t q) = ap (λ (c : Control). record {
-  live = record { battery = r .live .battery; last = t; control = c; watch = r .live .watch; tally = r .live .tally };
-  stores = r .stores;
-}) (request-off q (r .live .control .state) (r .live .control))
+erase-advance r (StateRequest t q) = refl
 erase-advance r (BattleOverride t on) = refl
 erase-advance r (ClearLongTerm t) = refl
 

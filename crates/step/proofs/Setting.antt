@@ -1,7 +1,7 @@
 -- An accepted call that takes no measurement leaves a record that shows the ledger after it: a setting, which leaves the session going on,
 -- or the border of a session. Neither adds to an account, so that both are about a tally with the accounts as they were.
 use mathlib.Core.Path.{_≡_, refl, sym, ap, _∙_}
-use mathlib.Core.Bool.{Bool, not, cond, _&&_}
+use mathlib.Core.Bool.{Bool}
 use mathlib.Core.List.{List, [], _∷_, _++_, append-nil}
 use Prim.Native.Nat.{ℕ, _+_, _≤_}
 use native.Mathlib.Nat.{add-zero}
@@ -9,11 +9,8 @@ use native.Mathlib.Omega.{arith}
 use lib.ListN.{take}
 use Rattle.rules.specs.declared.units.Milliseconds.{Milliseconds}
 use Rattle.rules.specs.declared.states.State.{State}
-use Rattle.rules.specs.declared.states.State.the-variants.{Unpowered, Dormant, Operational, Maintenance}
 use Rattle.rules.specs.declared.calls.Command.{Command}
-use Rattle.rules.specs.declared.calls.Command.the-variants.{Automated}
 use Rattle.rules.specs.declared.calls.Request.{Request}
-use Rattle.rules.specs.declared.calls.Request.the-variants.{Dormant as ToDormant, Operational as ToOperational, Maintenance as ToMaintenance}
 use Rattle.rules.specs.declared.calls.Event.{Event}
 use Rattle.rules.specs.declared.calls.Event.the-variants.{ContactorCommand, StateRequest, BattleOverride, ClearLongTerm}
 use Rattle.rules.specs.declared.stores.Stores.{Stores}
@@ -21,7 +18,6 @@ use Rattle.rules.specs.declared.battery.Control.{Control}
 use Rattle.rules.specs.declared.battery.Tally.{Tally}
 use Rattle.rules.specs.declared.battery.Record.{Record}
 use Rattle.rules.specs.Lists.{lastOf}
-use Rattle.rules.specs.States.{requested, isChange, entersDormant}
 use Rattle.rules.specs.Quantities.{mAms}
 use Rattle.rules.specs.Trips.{Measured}
 use Rattle.rules.specs.Ledger.{Ledger, accept, border, Accepted, entered}
@@ -36,38 +32,13 @@ use Rattle.step.proofs.Shows.{ShowsControl, ShowsTally, ShowsStores, Ti
 
 -- ---- the request of a state
 
-abbrev asked : Request → State → Control → Control
-asked q s c = record {
-  state = requested q;
-  command = cond (isChange s q) Automated (c .command);
-  overriding = not (entersDormant s q) && c .overriding;
-}
-
-abbrev inState : Control → State → Control
-inState c s = record { state = s; command = c .command; overriding = c .overriding }
-
--- what the step sets is what is asked for: where the state is kept, nothing changes
-request-is : (q : Request) (s : State) (c : Control) → c .state ≡ s → requestControl q s c ≡ asked q s c
-request-is ToDormant Unpowered c e = refl
-request-is ToDormant Dormant c e = ap (inState c) e
-request-is ToDormant Operational c e = refl
-request-is ToDormant Maintenance c e = refl
-request-is ToOperational Unpowered c e = refl
-request-is ToOperational Dormant c e = refl
-request-is ToOperational Operational c e = ap (inState c) e
-request-is ToOperational Maintenance c e = refl
-request-is ToMaintenance Unpowered c e = refl
-request-is ToMaintenance Dormant c e = refl
-request-is ToMaintenance Operational c e = refl
-request-is ToMaintenance Maintenance c e = ap (inState c) e
-
 requested-control : (q : Request) (t : Milliseconds) (c : Control) (l : Ledger) → ShowsControl c l
-    → ShowsControl (requestControl q (c .state) c) (accept l (StateRequest t q))
-requested-control q t c l k = rw (request-is q (c .state) c refl) (record {
+    → ShowsControl (requestControl q c) (accept l (StateRequest t q))
+requested-control q t c l k = record {
   state = refl;
   command = rw (k .state, k .command) refl;
   override = rw (k .state, k .override) refl;
-})
+}
 
 -- ---- a call that takes no measurement, and what it leaves as it is
 

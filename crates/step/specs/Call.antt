@@ -1,15 +1,14 @@
 -- One call on a record, and the run of a list of calls.
 use Prim.Native.Nat.{ℕ, zero, suc, _+_}
-use mathlib.Core.Bool.{Bool, true, false, not, _&&_}
+use mathlib.Core.Bool.{Bool, not, cond, _&&_}
 use mathlib.Core.List.{List, [], _∷_}
 use Rattle.rules.specs.declared.units.Milliseconds.{Milliseconds}
 use Rattle.rules.specs.declared.sensors.Reading.{Reading}
 use Rattle.rules.specs.declared.states.State.{State}
-use Rattle.rules.specs.declared.states.State.the-variants.{Unpowered, Dormant, Operational, Maintenance}
+use Rattle.rules.specs.declared.states.State.the-variants.{Unpowered, Dormant}
 use Rattle.rules.specs.declared.calls.Command.{Command}
 use Rattle.rules.specs.declared.calls.Command.the-variants.{Automated}
 use Rattle.rules.specs.declared.calls.Request.{Request}
-use Rattle.rules.specs.declared.calls.Request.the-variants.{Dormant as ToDormant, Operational as ToOperational, Maintenance as ToMaintenance}
 use Rattle.rules.specs.declared.calls.Event.{Event}
 use Rattle.rules.specs.declared.calls.Event.the-variants.{Measurement, PowerOn, PowerLoss, ContactorCommand, StateRequest, BattleOverride, ClearLongTerm}
 use Rattle.rules.specs.declared.battery.Control.{Control}
@@ -18,6 +17,7 @@ use Rattle.rules.specs.declared.battery.Live.{Live}
 use Rattle.rules.specs.declared.stores.Stores.{Stores}
 use Rattle.rules.specs.declared.battery.Record.{Record}
 use Rattle.rules.specs.declared.answers.Outcome.{Outcome}
+use Rattle.rules.specs.States.{requested, isChange, entersDormant}
 use Rattle.rules.specs.Test.{plausible}
 use Rattle.step.specs.Fresh.{noWatch, controlIn, noShortTerm, noLongTerm}
 use Rattle.step.specs.Refusal.{refusal}
@@ -52,23 +52,13 @@ commandLive t c l =
     setLive t (record { state = l .control .state; command = c; overriding = l .control .overriding })
     (record { commands = l .tally .commands + 1; charged = l .tally .charged; discharged = l .tally .discharged }) l
 
--- a state that is entered, and one that is kept
-abbrev pub enterState : State → Bool → Control → Control
-enterState s off c = record { state = s; command = Automated; overriding = not off && c .overriding }
-
-abbrev pub requestControl : Request → State → Control → Control
-requestControl ToDormant Unpowered c = enterState Dormant true c
-requestControl ToDormant Dormant c = c
-requestControl ToDormant Operational c = enterState Dormant true c
-requestControl ToDormant Maintenance c = enterState Dormant true c
-requestControl ToOperational Unpowered c = enterState Operational false c
-requestControl ToOperational Dormant c = enterState Operational false c
-requestControl ToOperational Operational c = c
-requestControl ToOperational Maintenance c = enterState Operational false c
-requestControl ToMaintenance Unpowered c = enterState Maintenance false c
-requestControl ToMaintenance Dormant c = enterState Maintenance false c
-requestControl ToMaintenance Operational c = enterState Maintenance false c
-requestControl ToMaintenance Maintenance c = c
+-- a request of a state: as the ledger takes it
+abbrev pub requestControl : Request → Control → Control
+requestControl q c = record {
+  state = requested q;
+  command = cond (isChange (c .state) q) Automated (c .command);
+  overriding = not (entersDormant (c .state) q) && c .overriding;
+}
 
 abbrev pub overrideControl : Bool → Control → Control
 overrideControl on c = record { state = c .state; command = c .command; overriding = on }
@@ -78,7 +68,7 @@ advanceLive (Measurement t r) l = measureLive t r l
 advanceLive (PowerOn t) l = borderLive Dormant t l
 advanceLive (PowerLoss t) l = borderLive Unpowered t l
 advanceLive (ContactorCommand t c) l = commandLive t c l
-advanceLive (StateRequest t q) l = setLive t (requestControl q (l .control .state) (l .control)) (l .tally) l
+advanceLive (StateRequest t q) l = setLive t (requestControl q (l .control)) (l .tally) l
 advanceLive (BattleOverride t on) l = setLive t (overrideControl on (l .control)) (l .tally) l
 advanceLive (ClearLongTerm t) l = setLive t (l .control) (l .tally) l
 

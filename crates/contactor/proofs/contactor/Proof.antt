@@ -3,9 +3,6 @@ use borrow.Author.Needs.{needs}
 use Rattle.contactor.proofs.contactor.Statement.{statement}
 use Rattle.contactor.proofs.contactor.Tie as tie
 
-closes-requires : tie.Need-closes-requires
-closes-requires c κs = search needs
-
 returns : tie.Need-returns
 returns c = search (closed, needs)
 
@@ -13,4 +10,4 @@ returns-2 : tie.Need-returns-2
 returns-2 c = search (opened, needs)
 
 pub contactor-spec : {M : Type 1} → statement M
-contactor-spec = tie.close (tie.spec closes-requires returns returns-2)
+contactor-spec = tie.close (tie.spec (λ c κs. search needs) returns returns-2)

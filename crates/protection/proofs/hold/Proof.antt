@@ -3,15 +3,6 @@ use borrow.Author.Needs.{needs}
 use Rattle.protection.proofs.hold.Statement.{statement}
 use Rattle.protection.proofs.hold.Tie as tie
 
-mul-result : tie.Need-mul-result
-mul-result c = search needs
-
-array-copy-out-result : tie.Need-array-copy-out-result
-array-copy-out-result c = search needs
-
-array-copy-out-result-2 : tie.Need-array-copy-out-result-2
-array-copy-out-result-2 c = search needs
-
 returns : tie.Need-returns
 returns c = λ battery. in-table (λ p. p .hold) battery (c .before .before .args .protection) (search needs) _
 
@@ -20,4 +11,5 @@ returns-2 c = λ battery. past-table (λ p. p .hold) battery (c .before .before 
 
 pub hold-spec : {M : Type 1} → statement M
 hold-spec =
-    tie.close (tie.spec mul-result array-copy-out-result array-copy-out-result-2 returns returns-2)
+    tie.close
+    (tie.spec (λ c. search needs) (λ c. search needs) (λ c. search needs) returns returns-2)

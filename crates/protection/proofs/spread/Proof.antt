@@ -5,16 +5,10 @@ use borrow.Author.Needs.{needs}
 use Rattle.protection.proofs.spread.Statement.{statement}
 use Rattle.protection.proofs.spread.Tie as tie
 
-sub-t5 : tie.Need-sub-t5
-sub-t5 c = search needs
-
-returns : tie.Need-returns
-returns c = search needs
-
 returns-2 : tie.Need-returns-2
 returns-2 c =
     let none : c .before .before .before .args .highest .0 - c .before .before .before .args .lowest .0 ≡ 0 = omega arith in
     rw none
 
 pub spread-spec : {M : Type 1} → statement M
-spread-spec = tie.close (tie.spec sub-t5 returns returns-2)
+spread-spec = tie.close (tie.spec (λ c. search needs) (λ c. search needs) returns-2)

@@ -5,9 +5,6 @@ use borrow.Author.Needs.{needs}
 use Rattle.reading.proofs.in_range.Statement.{statement}
 use Rattle.reading.proofs.in_range.Tie as tie
 
-current-in-range-requires : tie.Need-current-in-range-requires
-current-in-range-requires c κs = search needs
-
 returns : tie.Need-returns
 returns c =
     let e = c .before .before .before .before .before .before .before .before .before .before .before .before .before .args .e in
@@ -16,4 +13,4 @@ returns c =
     rw (cold, hot, c .current-in-range .ensures)
 
 pub in-range-spec : {M : Type 1} → statement M
-in-range-spec = tie.close (tie.spec current-in-range-requires returns)
+in-range-spec = tie.close (tie.spec (λ c κs. search needs) returns)

@@ -3,14 +3,8 @@ use borrow.Author.Needs.{needs}
 use Rattle.reading.proofs.plausible.Statement.{statement}
 use Rattle.reading.proofs.plausible.Tie as tie
 
-extremes-requires : tie.Need-extremes-requires
-extremes-requires c κs = search needs
-
-in-range-requires : tie.Need-in-range-requires
-in-range-requires c κs = search needs
-
 returns : tie.Need-returns
 returns c = rw (c .in-range .ensures, c .before .extremes .ensures) (plausible-by-extremes (c .before .before .args .r))
 
 pub plausible-spec : {M : Type 1} → statement M
-plausible-spec = tie.close (tie.spec extremes-requires in-range-requires returns)
+plausible-spec = tie.close (tie.spec (λ c κs. search needs) (λ c κs. search needs) returns)

@@ -2,48 +2,6 @@ use borrow.Author.Needs.{needs}
 use Rattle.refusal.proofs.by_state.Statement.{statement}
 use Rattle.refusal.proofs.by_state.Tie as tie
 
-enum-told : tie.Need-enum-told
-enum-told c = search needs
-
-while-powered-requires : tie.Need-while-powered-requires
-while-powered-requires c κs = search needs
-
-enum-told-2 : tie.Need-enum-told-2
-enum-told-2 c = search needs
-
-at-power-on-requires : tie.Need-at-power-on-requires
-at-power-on-requires c κs = search needs
-
-enum-told-3 : tie.Need-enum-told-3
-enum-told-3 c = search needs
-
-while-powered-requires-2 : tie.Need-while-powered-requires-2
-while-powered-requires-2 c κs = search needs
-
-enum-known-e : tie.Need-enum-known-e
-enum-known-e c = search needs
-
-at-command-requires : tie.Need-at-command-requires
-at-command-requires c κs = search needs
-
-enum-known-e-2 : tie.Need-enum-known-e-2
-enum-known-e-2 c = search needs
-
-at-request-requires : tie.Need-at-request-requires
-at-request-requires c κs = search needs
-
-enum-told-4 : tie.Need-enum-told-4
-enum-told-4 c = search needs
-
-at-override-requires : tie.Need-at-override-requires
-at-override-requires c κs = search needs
-
-enum-told-5 : tie.Need-enum-told-5
-enum-told-5 c = search needs
-
-at-clear-requires : tie.Need-at-clear-requires
-at-clear-requires c κs = search needs
-
 returns : tie.Need-returns
 returns c = rw (c .before .enum-told .given .1) (c .while-powered .ensures)
 
@@ -68,25 +26,7 @@ returns-7 c = rw (c .before .enum-told5 .given .1) (c .at-clear .ensures)
 pub by-state-spec : {M : Type 1} → statement M
 by-state-spec =
     tie.close
-    (tie.spec
-    enum-told
-    while-powered-requires
-    enum-told-2
-    at-power-on-requires
-    enum-told-3
-    while-powered-requires-2
-    enum-known-e
-    at-command-requires
-    enum-known-e-2
-    at-request-requires
-    enum-told-4
-    at-override-requires
-    enum-told-5
-    at-clear-requires
-    returns
-    returns-2
-    returns-3
-    returns-4
-    returns-5
-    returns-6
-    returns-7)
+    (tie.spec (λ c. search needs) (λ c κs. search needs) (λ c. search needs) (λ c κs. search needs)
+    (λ c. search needs) (λ c κs. search needs) (λ c. search needs) (λ c κs. search needs) (λ c. search needs)
+    (λ c κs. search needs) (λ c. search needs) (λ c κs. search needs) (λ c. search needs)
+    (λ c κs. search needs) returns returns-2 returns-3 returns-4 returns-5 returns-6 returns-7)

@@ -5,15 +5,6 @@ use borrow.Author.Needs.{needs}
 use Rattle.soundness.proofs.current_kept.Statement.{statement}
 use Rattle.soundness.proofs.current_kept.Tie as tie
 
-enum-told : tie.Need-enum-told
-enum-told c = search needs
-
-enum-known-p : tie.Need-enum-known-p
-enum-known-p c = search needs
-
-returns : tie.Need-returns
-returns c = search needs
-
 returns-2 : tie.Need-returns-2
 returns-2 c =
     let i = c .before .before .before .before .before .before .before .before .before .p .given .0 .1 .0 .0 in
@@ -21,4 +12,6 @@ returns-2 c =
     rw (same, c .before .before .before .before .before .before .before .before .before .p .given .1)
 
 pub current-kept-spec : {M : Type 1} → statement M
-current-kept-spec = tie.close (tie.spec enum-told enum-known-p returns returns-2)
+current-kept-spec =
+    tie.close
+    (tie.spec (λ c. search needs) (λ c. search needs) (λ c. search needs) returns-2)

@@ -2,17 +2,10 @@ use borrow.Author.Needs.{needs}
 use Rattle.soundness.proofs.measured_by.Statement.{statement}
 use Rattle.soundness.proofs.measured_by.Tie as tie
 
-enum-told : tie.Need-enum-told
-enum-told c = search needs
-
-enum-known-p : tie.Need-enum-known-p
-enum-known-p c = search needs
-
-returns : tie.Need-returns
-returns c = search needs
-
 returns-2 : tie.Need-returns-2
 returns-2 c = rw (c .before .before .before .p .given .1)
 
 pub measured-by-spec : {M : Type 1} → statement M
-measured-by-spec = tie.close (tie.spec enum-told enum-known-p returns returns-2)
+measured-by-spec =
+    tie.close
+    (tie.spec (λ c. search needs) (λ c. search needs) (λ c. search needs) returns-2)

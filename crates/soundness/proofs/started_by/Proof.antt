@@ -2,18 +2,6 @@ use borrow.Author.Needs.{needs}
 use Rattle.soundness.proofs.started_by.Statement.{statement}
 use Rattle.soundness.proofs.started_by.Tie as tie
 
-enum-told : tie.Need-enum-told
-enum-told c = search needs
-
-enum-known-span : tie.Need-enum-known-span
-enum-known-span c = search needs
-
-enum-known-span-2 : tie.Need-enum-known-span-2
-enum-known-span-2 c = search needs
-
-returns : tie.Need-returns
-returns c = search needs
-
 returns-2 : tie.Need-returns-2
 returns-2 c = rw (c .before .before .before .span .given .1)
 
@@ -22,4 +10,6 @@ returns-3 c = rw (c .before .before .before .span2 .given .1)
 
 pub started-by-spec : {M : Type 1} → statement M
 started-by-spec =
-    tie.close (tie.spec enum-told enum-known-span enum-known-span-2 returns returns-2 returns-3)
+    tie.close
+    (tie.spec (λ c. search needs) (λ c. search needs) (λ c. search needs) (λ c. search needs) returns-2
+    returns-3)

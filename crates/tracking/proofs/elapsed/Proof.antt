@@ -5,13 +5,10 @@ use borrow.Author.Needs.{needs}
 use Rattle.tracking.proofs.elapsed.Statement.{statement}
 use Rattle.tracking.proofs.elapsed.Tie as tie
 
-returns : tie.Need-returns
-returns c = search needs
-
 returns-2 : tie.Need-returns-2
 returns-2 c =
     let none : c .before .before .before .args .t .0 - c .before .before .before .args .start .0 ≡ 0 = omega arith in
     rw none
 
 pub elapsed-spec : {M : Type 1} → statement M
-elapsed-spec = tie.close (tie.spec returns returns-2)
+elapsed-spec = tie.close (tie.spec (λ c. search needs) returns-2)

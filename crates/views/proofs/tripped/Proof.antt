@@ -1,114 +1,30 @@
-use Rattle.views.proofs.Laws.{mask-is}
+use native.Mathlib.Nat.{zero-add}
 use borrow.Author.Needs.{needs}
+use Rattle.step.specs.Print.{trippedOf}
 use Rattle.views.proofs.tripped.Statement.{statement}
 use Rattle.views.proofs.tripped.Tie as tie
 
-array-copy-out-p0 : tie.Need-array-copy-out-p0
-array-copy-out-p0 c = search needs
-
-array-copy-out-p1 : tie.Need-array-copy-out-p1
-array-copy-out-p1 c = search needs
-
-array-copy-out-p2 : tie.Need-array-copy-out-p2
-array-copy-out-p2 c = search needs
-
-array-copy-out-p3 : tie.Need-array-copy-out-p3
-array-copy-out-p3 c = search needs
-
-array-copy-out-p4 : tie.Need-array-copy-out-p4
-array-copy-out-p4 c = search needs
-
-array-copy-out-p5 : tie.Need-array-copy-out-p5
-array-copy-out-p5 c = search needs
-
-array-copy-out-p6 : tie.Need-array-copy-out-p6
-array-copy-out-p6 c = search needs
-
-array-copy-out-p7 : tie.Need-array-copy-out-p7
-array-copy-out-p7 c = search needs
-
-bit-requires : tie.Need-bit-requires
-bit-requires c κs = search needs
-
-bit-requires-2 : tie.Need-bit-requires-2
-bit-requires-2 c κs = search needs
-
-add-result : tie.Need-add-result
-add-result c = search needs
-
-bit-requires-3 : tie.Need-bit-requires-3
-bit-requires-3 c κs = search needs
-
-add-result-2 : tie.Need-add-result-2
-add-result-2 c = search needs
-
-bit-requires-4 : tie.Need-bit-requires-4
-bit-requires-4 c κs = search needs
-
-add-result-3 : tie.Need-add-result-3
-add-result-3 c = search needs
-
-bit-requires-5 : tie.Need-bit-requires-5
-bit-requires-5 c κs = search needs
-
-add-result-4 : tie.Need-add-result-4
-add-result-4 c = search needs
-
-bit-requires-6 : tie.Need-bit-requires-6
-bit-requires-6 c κs = search needs
-
-add-result-5 : tie.Need-add-result-5
-add-result-5 c = search needs
-
-bit-requires-7 : tie.Need-bit-requires-7
-bit-requires-7 c κs = search needs
-
-add-result-6 : tie.Need-add-result-6
-add-result-6 c = search needs
-
-bit-requires-8 : tie.Need-bit-requires-8
-bit-requires-8 c κs = search needs
-
-add-result-7 : tie.Need-add-result-7
-add-result-7 c = search needs
-
 returns : tie.Need-returns
+unfolding trippedOf
 returns c =
-    mask-is _ _ _ _ _ _ _ _ _
-    (c .before .before .before .before .before .before .before .bit .ensures .0)
-    (c .before .before .before .before .before .before .bit2 .ensures .0)
-    (c .before .before .before .before .before .bit3 .ensures .0)
-    (c .before .before .before .before .bit4 .ensures .0)
-    (c .before .before .before .bit5 .ensures .0)
-    (c .before .before .bit6 .ensures .0)
-    (c .before .bit7 .ensures .0)
-    (c .bit8 .ensures .0)
+    rw (
+      c .before .before .before .before .before .before .before .bit .ensures .0,
+      c .before .before .before .before .before .before .bit2 .ensures .0,
+      c .before .before .before .before .before .bit3 .ensures .0,
+      c .before .before .before .before .bit4 .ensures .0,
+      c .before .before .before .bit5 .ensures .0,
+      c .before .before .bit6 .ensures .0,
+      c .before .bit7 .ensures .0,
+      c .bit8 .ensures .0,
+      zero-add,
+    )
 
 pub tripped-spec : {M : Type 1} → statement M
 tripped-spec =
     tie.close
-    (tie.spec
-    array-copy-out-p0
-    array-copy-out-p1
-    array-copy-out-p2
-    array-copy-out-p3
-    array-copy-out-p4
-    array-copy-out-p5
-    array-copy-out-p6
-    array-copy-out-p7
-    bit-requires
-    bit-requires-2
-    add-result
-    bit-requires-3
-    add-result-2
-    bit-requires-4
-    add-result-3
-    bit-requires-5
-    add-result-4
-    bit-requires-6
-    add-result-5
-    bit-requires-7
-    add-result-6
-    bit-requires-8
-    add-result-7
-    returns)
+    (tie.spec (λ c. search needs) (λ c. search needs) (λ c. search needs) (λ c. search needs)
+    (λ c. search needs) (λ c. search needs) (λ c. search needs) (λ c. search needs) (λ c κs. search needs)
+    (λ c κs. search needs) (λ c. search needs) (λ c κs. search needs) (λ c. search needs)
+    (λ c κs. search needs) (λ c. search needs) (λ c κs. search needs) (λ c. search needs)
+    (λ c κs. search needs) (λ c. search needs) (λ c κs. search needs) (λ c. search needs)
+    (λ c κs. search needs) (λ c. search needs) returns)

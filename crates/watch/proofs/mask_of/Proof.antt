@@ -5,11 +5,8 @@ use Rattle.watch.proofs.mask_of.Tie as tie
 returns : tie.Need-returns
 returns c = rw (c .if1 .taken)
 
-failed-mask-requires : tie.Need-failed-mask-requires
-failed-mask-requires c κs = search needs
-
 returns-2 : tie.Need-returns-2
 returns-2 c = rw (c .before .if1 .left) (c .failed-mask .ensures)
 
 pub mask-of-spec : {M : Type 1} → statement M
-mask-of-spec = tie.close (tie.spec returns failed-mask-requires returns-2)
+mask-of-spec = tie.close (tie.spec returns (λ c κs. search needs) returns-2)

@@ -5,27 +5,6 @@ use borrow.Author.Needs.{needs}
 use Rattle.watch.proofs.observe.Statement.{statement}
 use Rattle.watch.proofs.observe.Tie as tie
 
-plausible-requires : tie.Need-plausible-requires
-plausible-requires c κs = search needs
-
-mask-of-requires : tie.Need-mask-of-requires
-mask-of-requires c κs = search needs
-
-failed-count-requires : tie.Need-failed-count-requires
-failed-count-requires c κs = search needs
-
-sides-requires : tie.Need-sides-requires
-sides-requires c κs = search needs
-
-track-sides-requires : tie.Need-track-sides-requires
-track-sides-requires c κs = search needs
-
-test-of-requires : tie.Need-test-of-requires
-test-of-requires c κs = search needs
-
-previous-of-requires : tie.Need-previous-of-requires
-previous-of-requires c κs = search needs
-
 returns : tie.Need-returns
 unfolding observe failedCount
 returns c =
@@ -42,14 +21,4 @@ returns c =
     )
 
 pub observe-spec : {M : Type 1} → statement M
-observe-spec =
-    tie.close
-    (tie.spec
-    plausible-requires
-    mask-of-requires
-    failed-count-requires
-    sides-requires
-    track-sides-requires
-    test-of-requires
-    previous-of-requires
-    returns)
+observe-spec = tie.close (search (tie.spec, returns, needs))

@@ -5,8 +5,5 @@ use Rattle.watch.proofs.previous_of.Tie as tie
 returns : tie.Need-returns
 returns c = rw (c .if1 .taken)
 
-returns-2 : tie.Need-returns-2
-returns-2 c = search needs
-
 pub previous-of-spec : {M : Type 1} → statement M
-previous-of-spec = tie.close (tie.spec returns returns-2)
+previous-of-spec = tie.close (tie.spec returns (λ c. search needs))

@@ -5,22 +5,20 @@ use mathlib.Core.List.{List, [], _∷_, _++_}
 use mathlib.Core.Path.{_≡_, refl, sym, ap, ap₂, _∙_}
 use native.Mathlib.Omega.{arith}
 use contract.Lifetimes.{Lfts}
-use lib.IntN.{ℤ}
-use lib.ListN.{length, getD, take, drop}
+use lib.ListN.{length, take, drop}
 use lib.Seq.{take-at}
 use mir.Syntax.{w32}
 use mir.Val.{SFits}
 use Rattle.rules.specs.Lists.{tabulate}
 use Rattle.rules.specs.Bytes.{InRange, entryForms}
 use Rattle.rules.specs.Numbers.{bytes, entryKind, entryValues}
-use Rattle.rules.specs.Shown.{longEntry, longEntries, shortEntry, shortEntries, entryOf}
+use Rattle.rules.specs.Shown.{longSlot, shortSlot, entryAs, entryOf, longEntries, shortEntries}
 use Rattle.rules.specs.Soundness.{ProtectionsBelow8}
 use Rattle.rules.specs.declared.battery.Record.{Record}
 use Rattle.rules.specs.declared.stores.Entry.{Entry}
-use Rattle.rules.specs.declared.stores.Entry.the-variants.{Trip, Release}
+use Rattle.rules.specs.declared.stores.Slot.{Slot}
 use Rattle.rules.specs.declared.stores.LongTerm.{LongTerm}
 use Rattle.rules.specs.declared.stores.ShortTerm.{ShortTerm}
-use Rattle.rules.specs.declared.units.Milliseconds.{Milliseconds}
 use Rattle.export.proofs.Allowed.{CodeLong, CodeShort, long-wrote, short-wrote}
 use Rattle.export.specs.Exports.{InMachine}
 use Rattle.export.specs.Exports.{allBytes as exportBytes}
@@ -30,25 +28,28 @@ use Rattle.roundtrip.specs.Chains.{allBytes, AllInRange, ReadAs}
 
 -- ---- the entries of a store are in range
 
-stored-range : (release : Bool) (t : Milliseconds) (protection : ℕ) (value : ℤ) → t .0 < 4_294_967_296 → protection ≤ 7 → SFits w32 value
-    → InRange entryForms (entryKind (entryOf release t protection value)) (entryValues (entryOf release t protection value))
-stored-range true t protection value time listed fits = entry-range (Release t protection) (time, omega arith) listed
-stored-range false t protection value time listed fits = entry-range (Trip t protection value) (time, omega arith, fits) listed
+range-as : (slot : Slot) (release : Bool) → slot .time .0 < 4_294_967_296 → slot .protection ≤ 7 → SFits w32 (slot .value)
+    → InRange entryForms (entryKind (entryAs slot release)) (entryValues (entryAs slot release))
+range-as slot true time listed fits = entry-range (entryAs slot true) (time, omega arith) listed
+range-as slot false time listed fits = entry-range (entryAs slot false) (time, omega arith, fits) listed
 
 range-first : (place : ℕ → Entry) (n : ℕ) → ((i : ℕ) → i < n → InRange entryForms (entryKind (place i)) (entryValues (place i)))
     → AllInRange entries (tabulate n place)
 range-first place zero each = tt
 range-first place (suc n) each = (each zero (omega arith), range-first (λ k. place (suc k)) n (λ i h. each (suc i) (omega (arith, h))))
 
-long-range : (s : LongTerm) → ProtectionsBelow8 (s .count) (s .protections) → InMachine (s .times) (s .values) → AllInRange entries (longEntries s)
-unfolding longEntries
-long-range s numbers machine =
-    range-first (longEntry s) (s .count) (λ i h. stored-range false _ _ _ (machine i .0) (numbers i h) (machine i .1))
+places-range : (slots : ℕ → Slot) (n : ℕ) → ((i : ℕ) → i < n → slots i .protection ≤ 7) → InMachine slots
+    → AllInRange entries (tabulate n (λ i. entryOf (slots i)))
+places-range slots n listed machine =
+    range-first (λ i. entryOf (slots i)) n (λ i h. range-as (slots i) (slots i .release) (machine i .0) (listed i h) (machine i .1))
 
-short-range : (s : ShortTerm) → ProtectionsBelow8 (s .count) (s .protections) → InMachine (s .times) (s .values) → AllInRange entries (shortEntries s)
+long-range : (s : LongTerm) → ProtectionsBelow8 (s .count) (s .protections) → InMachine (longSlot s) → AllInRange entries (longEntries s)
+unfolding longEntries
+long-range s = places-range (longSlot s) (s .count)
+
+short-range : (s : ShortTerm) → ProtectionsBelow8 (s .count) (s .protections) → InMachine (shortSlot s) → AllInRange entries (shortEntries s)
 unfolding shortEntries
-short-range s numbers machine =
-    range-first (shortEntry s) (s .count) (λ i h. stored-range (getD (s .releases) i false) _ _ _ (machine i .0) (numbers i h) (machine i .1))
+short-range s = places-range (shortSlot s) (s .count)
 
 -- ---- and the bytes due are those of the round trips
 

@@ -1,5 +1,5 @@
 -- What a measurement adds to both stores: its trips in rising number, then its releases likewise.
-use mathlib.Core.Path.{_≡_, refl, sym, ap, _∙_}
+use mathlib.Core.Path.{_≡_, refl, sym, ap, ap₂, _∙_}
 use mathlib.Core.Bool.{Bool, true, false, not, cond, _&&_}
 use mathlib.Core.List.{List, [], _∷_, _++_, append-assoc, append-nil}
 use Prim.Native.Nat.{ℕ, zero, suc, _≤_, _<_}
@@ -12,13 +12,14 @@ use Rattle.rules.specs.declared.sensors.Reading.{Reading}
 use Rattle.rules.specs.declared.session.ProtectionState.{ProtectionState}
 use Rattle.rules.specs.declared.stores.Entry.{Entry}
 use Rattle.rules.specs.declared.stores.Entry.the-variants.{Trip, Release}
+use Rattle.rules.specs.declared.stores.Slot.{Slot}
 use Rattle.rules.specs.declared.stores.Stores.{Stores}
 use Rattle.rules.specs.Protections.{rowOf}
 use Rattle.rules.specs.Stores.{ascending}
-use Rattle.rules.specs.Shown.{longEntry, shortEntry, longEntries, shortEntries, keptAt}
-use Rattle.rules.proofs.Lists.{length-tabulate, take-kept, last-kept, last-all}
+use Rattle.rules.specs.Shown.{longEntry, shortEntry, entryOf, longEntries, shortEntries, keptAt}
 use Rattle.rules.specs.Lists.{lastOf}
-use Rattle.step.specs.Push.{pushTrip, pushRelease, trips, releases, pushTrips, pushReleases, pushAll}
+use Rattle.rules.proofs.Lists.{length-tabulate, take-kept, last-kept, last-all}
+use Rattle.step.specs.Push.{pushLong, pushShort, pushEntry, pushWhere, pushAll, trips, releases, tripSlot, releaseSlot}
 use Rattle.step.proofs.Storing.{LongFits, ShortFits, long-pushed, long-fits, short-pushed, short-fits}
 
 pub record StoresFit (s : Stores) : Type 0 where
@@ -50,25 +51,83 @@ added-none s f = record {
   fits = f;
 }
 
-module _ (s q : Stores) (longs shorts : List Entry) (a : Added s q longs shorts) (t : Milliseconds) (protection : ℕ) (k : protection ≤ 7) where
-  added-trip : (v : ℤ) → Added s (pushTrip q t protection v) (longs ++ (Trip t protection v ∷ [])) (shorts ++ (Trip t protection v ∷ []))
-  added-trip v = record {
-    long = keeps-more (take 64) (take-kept 64) (longEntries (s .long)) longs _ _ _ (a .long) (long-pushed (q .long) (a .fits .long) t protection v);
-    short = keeps-more (lastOf 16) (last-kept 16) (shortEntries (s .short)) shorts _ _ _ (a .short) (short-pushed (q .short) (a .fits .short) t protection v false);
-    fits = record {
-      long = long-fits (q .long) (a .fits .long) t protection v k;
-      short = short-fits (q .short) (a .fits .short) t protection v false k;
-    };
-  }
-
-  added-release : Added s (pushRelease q t protection) longs (shorts ++ (Release t protection ∷ []))
-  added-release = record {
-    long = a .long;
-    short = keeps-more (lastOf 16) (last-kept 16) (shortEntries (s .short)) shorts _ _ _ (a .short) (short-pushed (q .short) (a .fits .short) t protection (pos 0) true);
-    fits = record { long = a .fits .long; short = short-fits (q .short) (a .fits .short) t protection (pos 0) true k };
-  }
-
 -- ---- the protections, one after the other
+
+-- what a slot adds to the long-term store
+abbrev longOf : Slot → List Entry
+longOf slot = cond (slot .release) [] (entryOf slot ∷ [])
+
+module _ (s q : Stores) (longs shorts : List Entry) (a : Added s q longs shorts) (slot : Slot) (k : slot .protection ≤ 7) where
+  added-entry : Added s (pushEntry q slot) (longs ++ longOf slot) (shorts ++ (entryOf slot ∷ []))
+  added-entry = go (slot .release) refl
+    where
+      short : shortEntries (pushShort (q .short) slot) ≡ lastOf 16 (shortEntries (s .short) ++ (shorts ++ (entryOf slot ∷ [])))
+      short = keeps-more (lastOf 16) (last-kept 16) (shortEntries (s .short)) shorts _ _ _ (a .short) (short-pushed (q .short) (a .fits .short) slot)
+
+      fits : ShortFits (pushShort (q .short) slot)
+      fits = short-fits (q .short) (a .fits .short) slot k
+
+      go : (b : Bool) → slot .release ≡ b
+          → Added s (record { short = pushShort (q .short) slot; long = cond b (q .long) (pushLong (q .long) slot) })
+          (longs ++ cond b [] (entryOf slot ∷ []))
+          (shorts ++ (entryOf slot ∷ []))
+      go true e = record { long = rw append-nil (a .long); short = short; fits = record { long = a .fits .long; short = fits } }
+      go false e = record {
+        long = keeps-more (take 64) (take-kept 64) (longEntries (s .long)) longs _ _ _ (a .long) (long-pushed (q .long) (a .fits .long) slot e);
+        short = short;
+        fits = record { long = long-fits (q .long) (a .fits .long) slot e k; short = fits };
+      }
+
+-- the entries of the protections that a test picks
+abbrev longsAt : (ℕ → Bool) → (ℕ → Slot) → ℕ → List Entry
+longsAt picks slots i = cond (picks i) (longOf (slots i)) []
+
+abbrev shortsAt : (ℕ → Bool) → (ℕ → Slot) → ℕ → List Entry
+shortsAt picks slots i = cond (picks i) (entryOf (slots i) ∷ []) []
+
+module _ (s : Stores) (picks : ℕ → Bool) (slots : ℕ → Slot) (is : (i : ℕ) → slots i .protection ≡ i) where
+  abbrev longsTo : ℕ → List Entry
+  longsTo = ascending (longsAt picks slots)
+
+  abbrev shortsTo : ℕ → List Entry
+  shortsTo = ascending (shortsAt picks slots)
+
+  added-where : (q : Stores) (longs shorts : List Entry) → Added s q longs shorts → (n : ℕ) → n ≤ 8
+      → Added s (pushWhere picks slots q n) (longs ++ longsTo n) (shorts ++ shortsTo n)
+  unfolding pushWhere
+  added-where q longs shorts a zero h = rw (append-nil longs, append-nil shorts) a
+  added-where q longs shorts a (suc n) h = go (picks n) (added-where q longs shorts a n (omega arith))
+    where
+      sofar : Stores
+      sofar = pushWhere picks slots q n
+
+      go : (b : Bool) → Added s sofar (longs ++ longsTo n) (shorts ++ shortsTo n)
+          → Added s (cond b (pushEntry sofar (slots n)) sofar)
+          (longs ++ (longsTo n ++ cond b (longOf (slots n)) []))
+          (shorts ++ (shortsTo n ++ cond b (entryOf (slots n) ∷ []) []))
+      go true before =
+          rw (← append-assoc longs, ← append-assoc shorts)
+          (added-entry s sofar (longs ++ longsTo n) (shorts ++ shortsTo n) before (slots n) (omega (arith, is n)))
+      go false before = rw (append-nil (longsTo n), append-nil (shortsTo n)) before
+
+-- what stands below 8
+ascending-same : (f g : ℕ → List Entry) (n : ℕ) → ((i : ℕ) → i < n → f i ≡ g i) → ascending f n ≡ ascending g n
+ascending-same f g zero h = refl
+ascending-same f g (suc n) h = ap₂ (λ (xs ys : List Entry). xs ++ ys) (ascending-same f g n (λ i k. h i (omega arith))) (h n (omega arith))
+
+ascending-none : (f : ℕ → List Entry) (n : ℕ) → ((i : ℕ) → f i ≡ []) → ascending f n ≡ []
+ascending-none f zero h = refl
+ascending-none f (suc n) h = rw (ascending-none f n h, h n)
+
+and-comm : (a b : Bool) → (a && b) ≡ (b && a)
+and-comm true true = refl
+and-comm true false = refl
+and-comm false true = refl
+and-comm false false = refl
+
+none-or-none : (b : Bool) → _≡_ {A = List Entry} (cond b [] []) []
+none-or-none true = refl
+none-or-none false = refl
 
 module _
     (battery : ℕ)
@@ -84,46 +143,19 @@ module _
   abbrev pub releaseAt : ℕ → List Entry
   releaseAt i = cond (was i && not (now i)) (Release t i ∷ []) []
 
-  module _ (s : Stores) (f : StoresFit s) where
-    added-trips : (n : ℕ) → n ≤ 8 → Added s (pushTrips battery t r before after s n) (ascending tripAt n) (ascending tripAt n)
-    unfolding pushTrips
-    added-trips zero h = added-none s f
-    added-trips (suc n) h = go (not (was n) && now n) same (added-trips n (omega arith))
-      where
-        same : trips before after n ≡ (not (was n) && now n)
-        same = rw (before-is n (omega arith), after-is n (omega arith)) refl
+  trips-are : ascending (shortsAt (trips before after) (tripSlot battery t r)) 8 ≡ ascending tripAt 8
+  trips-are = ascending-same (shortsAt (trips before after) (tripSlot battery t r)) tripAt 8 (λ i h. rw (before-is i h, after-is i h))
 
-        sofar : Stores
-        sofar = pushTrips battery t r before after s n
+  releases-are : ascending (shortsAt (releases before after) (releaseSlot t)) 8 ≡ ascending releaseAt 8
+  releases-are = ascending-same (shortsAt (releases before after) (releaseSlot t)) releaseAt 8 (λ i h. rw (before-is i h, after-is i h, and-comm (not (now i)) (was i)))
 
-        go : (b : Bool) → trips before after n ≡ b → Added s sofar (ascending tripAt n) (ascending tripAt n)
-            → Added s (cond (trips before after n) (pushTrip sofar t n (rowOf battery n .value r)) sofar)
-            (ascending tripAt n ++ cond b (Trip t n (rowOf battery n .value r) ∷ []) [])
-            (ascending tripAt n ++ cond b (Trip t n (rowOf battery n .value r) ∷ []) [])
-        go true e a = rw e (added-trip s sofar (ascending tripAt n) (ascending tripAt n) a t n (omega arith) (rowOf battery n .value r))
-        go false e a = rw (e, append-nil) a
+  releases-short : ascending (longsAt (releases before after) (releaseSlot t)) 8 ≡ []
+  releases-short = ascending-none (longsAt (releases before after) (releaseSlot t)) 8 (λ i. none-or-none (releases before after i))
 
-    added-releases : (q : Stores) (longs shorts : List Entry) → Added s q longs shorts → (n : ℕ) → n ≤ 8
-        → Added s (pushReleases t before after q n) longs (shorts ++ ascending releaseAt n)
-    unfolding pushReleases
-    added-releases q longs shorts a zero h = rw append-nil a
-    added-releases q longs shorts a (suc n) h = go (was n && not (now n)) same (added-releases q longs shorts a n (omega arith))
-      where
-        same : releases before after n ≡ (was n && not (now n))
-        same = rw (before-is n (omega arith), after-is n (omega arith)) refl
-
-        sofar : Stores
-        sofar = pushReleases t before after q n
-
-        go : (b : Bool) → releases before after n ≡ b → Added s sofar longs (shorts ++ ascending releaseAt n)
-            → Added s (cond (releases before after n) (pushRelease sofar t n) sofar) longs
-            (shorts ++ (ascending releaseAt n ++ cond b (Release t n ∷ []) []))
-        go true e a = rw (e, ← append-assoc) (added-release s sofar longs (shorts ++ ascending releaseAt n) a t n (omega arith))
-        go false e a = rw (e, append-nil) a
-
-    -- all of them
-    pub added-all : Added s (pushAll battery t r before after s) (ascending tripAt 8) (ascending tripAt 8 ++ ascending releaseAt 8)
-    unfolding pushAll
-    added-all =
-        added-releases (pushTrips battery t r before after s 8) (ascending tripAt 8) (ascending tripAt 8) (added-trips 8 (omega arith)) 8
-        (omega arith)
+  -- all of them
+  pub added-all : (s : Stores) → StoresFit s → Added s (pushAll battery t r before after s) (ascending tripAt 8) (ascending tripAt 8 ++ ascending releaseAt 8)
+  unfolding pushAll
+  added-all s f =
+      let tripped = added-where s (trips before after) (tripSlot battery t r) (λ i. refl) s [] [] (added-none s f) 8 (omega arith) in
+      let all = added-where s (releases before after) (releaseSlot t) (λ i. refl) _ _ _ tripped 8 (omega arith) in
+      rw (trips-are, releases-are, releases-short, append-nil) at all

@@ -2,7 +2,6 @@
 // A case on standard input is four bytes (which, position, room, length) and then `length` bytes: which is 0 for the event reader, 1 for
 // the entry reader, each followed by a writer into a buffer of `room` bytes if something was found; 2 and 3 write a trip and a release
 // whose protection number is the first of the bytes.
-ghost use mathlib.Core.Path.{_≡_};
 use rules::answers::ReadEntry;
 use rules::answers::ReadEvent;
 use rules::answers::Written;
@@ -12,112 +11,105 @@ use rules::calls::Request;
 use rules::sensors::Reading;
 use rules::stores::Entry;
 use rules::units::Milliseconds;
+use testing::print;
+use testing::slice;
+use testing::table;
+use testing::table::Next;
+use words::read;
 
-fn wide(x: u8) -> usize
-    ensures { λ r. ⌜ r ≡ x ⌝ }
-{
-    x as usize
+// A value stands after a space.
+fn value(n: u64) {
+    print::text(b" ");
+    print::decimal(n);
 }
 
-fn text(s: &[u8]) {
-    io::write_all(1, s);
-}
-
-fn number(n: u64) {
-    text(b" ");
-    io::print_decimal(1, n);
-}
-
-// A number of 32 bits by its two's complement.
 fn signed(z: i32) {
-    let bits = words::write::bits32(z) as u64;
-    if z < 0 {
-        text(b" -");
-        io::print_decimal(1, 4_294_967_296 - bits);
-    } else {
-        number(bits);
-    }
+    print::text(b" ");
+    print::signed(z);
 }
 
 fn signed16(z: i16) {
-    let bits = words::write::bits16(z) as u64;
-    if z < 0 {
-        text(b" -");
-        io::print_decimal(1, 65_536 - bits);
-    } else {
-        number(bits);
-    }
+    print::text(b" ");
+    print::signed16(z);
 }
 
-fn print_reading(r: Reading) {
-    number(r.cell0.0 as u64);
-    number(r.cell1.0 as u64);
-    number(r.cell2.0 as u64);
-    number(r.cell3.0 as u64);
-    number(r.cell4.0 as u64);
-    number(r.cell5.0 as u64);
-    number(r.cell6.0 as u64);
-    number(r.cell7.0 as u64);
-    signed(r.current.0);
+fn print_cells(r: Reading) {
+    value(r.cell0.0 as u64);
+    value(r.cell1.0 as u64);
+    value(r.cell2.0 as u64);
+    value(r.cell3.0 as u64);
+    value(r.cell4.0 as u64);
+    value(r.cell5.0 as u64);
+    value(r.cell6.0 as u64);
+    value(r.cell7.0 as u64);
+}
+
+fn print_temperatures(r: Reading) {
     signed16(r.temperature0.0);
     signed16(r.temperature1.0);
     signed16(r.temperature2.0);
     signed16(r.temperature3.0);
 }
 
+fn print_reading(r: Reading) {
+    print_cells(r);
+    signed(r.current.0);
+    print_temperatures(r);
+}
+
 fn print_command(c: Command) {
     match c {
-        Command::Automated => text(b" automated"),
-        Command::Open => text(b" open"),
-        Command::ForceClosed => text(b" force-closed"),
+        Command::Automated => print::text(b" automated"),
+        Command::Open => print::text(b" open"),
+        Command::ForceClosed => print::text(b" force-closed"),
     }
 }
 
 fn print_request(q: Request) {
     match q {
-        Request::Dormant => text(b" dormant"),
-        Request::Operational => text(b" operational"),
-        Request::Maintenance => text(b" maintenance"),
+        Request::Dormant => print::text(b" dormant"),
+        Request::Operational => print::text(b" operational"),
+        Request::Maintenance => print::text(b" maintenance"),
     }
 }
 
 fn print_event(e: Event) {
     match e {
         Event::Measurement(t, r) => {
-            text(b"measurement");
-            number(t.0 as u64);
+            print::text(b"measurement");
+            value(t.0 as u64);
             print_reading(r);
         }
         Event::PowerOn(t) => {
-            text(b"power-on");
-            number(t.0 as u64);
+            print::text(b"power-on");
+            value(t.0 as u64);
         }
         Event::PowerLoss(t) => {
-            text(b"power-loss");
-            number(t.0 as u64);
+            print::text(b"power-loss");
+            value(t.0 as u64);
         }
         Event::ContactorCommand(t, c) => {
-            text(b"command");
-            number(t.0 as u64);
+            print::text(b"command");
+            value(t.0 as u64);
             print_command(c);
         }
         Event::StateRequest(t, q) => {
-            text(b"request");
-            number(t.0 as u64);
+            print::text(b"request");
+            value(t.0 as u64);
             print_request(q);
         }
         Event::BattleOverride(t, on) => {
-            text(b"override");
-            number(t.0 as u64);
+            print::text(b"override");
+            value(t.0 as u64);
             if on {
-                text(b" on");
+                print::text(b" on");
             } else {
-                text(b" off");
+                print::text(b" off");
             }
         }
         Event::ClearLongTerm(t) => {
-            text(b"clear");
-            number(t.0 as u64);
+            print::text(b"clear");
+            value(t.0 as u64);
         }
     }
 }
@@ -125,145 +117,126 @@ fn print_event(e: Event) {
 fn print_entry(e: Entry) {
     match e {
         Entry::Trip(t, p, v) => {
-            text(b"trip");
-            number(t.0 as u64);
-            number(p as u64);
+            print::text(b"trip");
+            value(t.0 as u64);
+            value(p as u64);
             signed(v);
         }
         Entry::Release(t, p) => {
-            text(b"release");
-            number(t.0 as u64);
-            number(p as u64);
+            print::text(b"release");
+            value(t.0 as u64);
+            value(p as u64);
         }
     }
 }
 
-fn print_refused(n: u8) {
-    text(b"refused");
-    number(n as u64);
+fn print_refused(refusal: u8) {
+    print::text(b"refused");
+    value(refusal as u64);
 }
 
-fn print_written(w: Written) {
+// What a writer answers, and its buffer after it.
+fn print_written(w: Written, buffer: &[u8]) {
     match w {
         Written::Bytes(n) => {
-            text(b", written");
-            number(n as u64);
+            print::text(b", written");
+            value(n as u64);
         }
-        Written::Refused(n) => {
-            text(b", ");
-            print_refused(n);
+        Written::Refused(refusal) => {
+            print::text(b", ");
+            print_refused(refusal);
         }
     }
-}
-
-fn print_bytes(s: &[u8]) {
-    text(b" ");
-    let mut i = 0;
-    while i < s.len() {
-        io::print_hex(1, wide(s[i]) as u64, 2);
-        i += 1;
-    }
+    print::text(b" ");
+    print::hex(buffer);
 }
 
 fn event_into(e: Event, buffer: &mut [u8]) {
-    print_written(event_writer::write_event(e, buffer));
-    print_bytes(buffer);
+    print_written(event_writer::write_event(e, buffer), buffer);
 }
 
 fn entry_into(e: Entry, buffer: &mut [u8]) {
-    print_written(entries::write::write_entry(e, buffer));
-    print_bytes(buffer);
+    print_written(entries::write::write_entry(e, buffer), buffer);
 }
 
-// The buffer's bytes are hex ee before the write.
-fn write_event(e: Event, room: usize) {
-    let mut buffer = [0xeeu8; 64];
-    if room <= 64 {
-        event_into(e, &mut buffer[..room]);
-    }
-}
-
-fn write_entry(e: Entry, room: usize) {
-    let mut buffer = [0xeeu8; 64];
-    if room <= 64 {
-        entry_into(e, &mut buffer[..room]);
-    }
-}
-
-fn event_case(s: &[u8], position: usize, room: usize) {
+fn event_case(s: &[u8], position: usize, buffer: &mut [u8]) {
     match event_reader::read_event(s, position) {
         ReadEvent::Found(e, next) => {
             print_event(e);
-            text(b", next");
-            number(next as u64);
-            write_event(e, room);
+            print::text(b", next");
+            value(next as u64);
+            event_into(e, buffer);
         }
-        ReadEvent::End => text(b"end"),
-        ReadEvent::Refused(n, at) => {
-            print_refused(n);
-            number(at as u64);
+        ReadEvent::End => print::text(b"end"),
+        ReadEvent::Refused(refusal, at) => {
+            print_refused(refusal);
+            value(at as u64);
         }
     }
 }
 
-fn entry_case(s: &[u8], position: usize, room: usize) {
+fn entry_case(s: &[u8], position: usize, buffer: &mut [u8]) {
     match entries::read::read_entry(s, position) {
         ReadEntry::Found(e, next) => {
             print_entry(e);
-            text(b", next");
-            number(next as u64);
-            write_entry(e, room);
+            print::text(b", next");
+            value(next as u64);
+            entry_into(e, buffer);
         }
-        ReadEntry::End => text(b"end"),
-        ReadEntry::Refused(n, at) => {
-            print_refused(n);
-            number(at as u64);
+        ReadEntry::End => print::text(b"end"),
+        ReadEntry::Refused(refusal, at) => {
+            print_refused(refusal);
+            value(at as u64);
         }
     }
 }
 
-fn write_case(release: bool, s: &[u8], room: usize) {
-    if 0 < s.len() {
-        let p = s[0];
-        let e = if release {
-            Entry::Release(Milliseconds(1), p)
-        } else {
-            Entry::Trip(Milliseconds(1), p, -2)
-        };
-        print_entry(e);
-        write_entry(e, room);
-    }
+fn write_case(e: Entry, buffer: &mut [u8]) {
+    print_entry(e);
+    entry_into(e, buffer);
 }
 
-fn case(which: u8, position: usize, room: usize, s: &[u8]) {
+fn case(which: u8, position: usize, s: &[u8], buffer: &mut [u8]) {
+    let p = read::byte_at(s, 0);
     match which {
-        0 => event_case(s, position, room),
-        1 => entry_case(s, position, room),
-        2 => write_case(false, s, room),
-        _ => write_case(true, s, room),
+        0 => event_case(s, position, buffer),
+        1 => entry_case(s, position, buffer),
+        2 => write_case(Entry::Trip(Milliseconds(1), p, -2), buffer),
+        _ => write_case(Entry::Release(Milliseconds(1), p), buffer),
     }
-    text(b"\n");
 }
 
-fn cases(s: &[u8]) {
+// A buffer's bytes are hex ee before the write.
+fn case_by(head: &[u8], s: &[u8]) {
+    let mut buffer = [0xeeu8; 64];
+    let room = slice::byte(head, 2);
+    if room <= 64 {
+        case(
+            read::byte_at(head, 0),
+            slice::byte(head, 1),
+            s,
+            &mut buffer[..room],
+        );
+    }
+    print::text(b"\n");
+}
+
+fn cases(table: &[u8]) {
     let mut at: usize = 0;
-    while at < s.len() {
-        if s.len() - at < 4 {
+    while at < table.len() {
+        let Next::Case(start, end) = table::case_at(table, at, 4) else {
             return;
-        }
-        let start = at + 4;
-        let size = wide(s[at + 3]);
-        if s.len() - start < size {
-            return;
-        }
-        let end = start + size;
-        case(s[at], wide(s[at + 1]), wide(s[at + 2]), &s[start..end]);
+        };
+        case_by(
+            slice::part(table, at, start),
+            slice::part(table, start, end),
+        );
         at = end;
     }
 }
 
 fn main() {
     let mut input = io::large_buffer();
-    let n = io::read_full(0, &mut input);
+    let n = io::read_full(libc::STDIN_FILENO, &mut input);
     cases(&input[..n]);
 }

@@ -2,11 +2,15 @@
 // kept apart and written only where a call touches them. It prints how many events there are and how many calls are made, and for each of
 // three repetitions the processor time in nanoseconds, in all and per call, and the refusals: of calls on events that were read before, and
 // of reading and calls.
+use log::extent;
 use log::reader;
 use rules::answers::ReadEvent;
 use rules::battery::Record;
 use rules::calls::Event;
 use rules::units::Milliseconds;
+use testing::files;
+use testing::print;
+use testing::slice;
 
 // The first events of a log are kept, as many as there are slots.
 const SLOTS: usize = 4096;
@@ -32,19 +36,6 @@ fn events(input: &[u8]) -> [Slot; SLOTS] {
         i += 1;
     }
     slots
-}
-
-fn count(input: &[u8]) -> usize {
-    let mut at: usize = 1;
-    let mut i: usize = 0;
-    while i < SLOTS {
-        let ReadEvent::Found(_, next) = reader::event_at(input, at) else {
-            return i;
-        };
-        at = next;
-        i += 1;
-    }
-    SLOTS
 }
 
 // How many calls were refused. After the last event the first one follows, on the first record.
@@ -109,16 +100,6 @@ fn read_and_call(input: &[u8], first: Record) -> usize {
     refused
 }
 
-fn text(s: &[u8]) {
-    io::write_all(1, s);
-}
-
-fn line(name: &[u8], n: u64) {
-    text(name);
-    io::print_decimal(1, n);
-    text(b"\n");
-}
-
 fn natural(z: i64) -> u64 {
     if z < 0 {
         return 0;
@@ -140,11 +121,11 @@ fn report(name: &[u8], start: i64, end: i64, refused: usize) {
     let us = between(start, end);
     if us < 1_000_000_000_000 {
         let ns = us * 1000;
-        text(name);
-        io::print_decimal(1, ns);
-        text(b" ns, per call ");
-        io::print_decimal(1, ns / (CALLS as u64));
-        line(b", refused ", refused as u64);
+        print::text(name);
+        print::decimal(ns);
+        print::text(b" ns, per call ");
+        print::decimal(ns / (CALLS as u64));
+        print::line(b", refused ", refused as u64);
     }
 }
 
@@ -163,9 +144,10 @@ fn run(input: &[u8]) {
         let f = engine::fresh(input[0]);
         let first = f.start;
         let slots = events(input);
-        let n = count(input);
-        line(b"events ", n as u64);
-        line(b"calls ", CALLS as u64);
+        let readable = extent::readable(slice::part(input, 1, input.len()), SLOTS);
+        let n = readable.count;
+        print::line(b"events ", n as u64);
+        print::line(b"calls ", CALLS as u64);
         repeat(input, slots, n, first);
         repeat(input, slots, n, first);
         repeat(input, slots, n, first);
@@ -173,19 +155,11 @@ fn run(input: &[u8]) {
 }
 
 fn main() {
-    let mut path = io::buffer();
-    let length = os::arg(1, &mut path);
-    if length == 0 {
-        text(b"usage: engine_bench LOG\n");
-        return;
-    }
-    let fd = os::open_read(&path[..length]);
-    if fd < 0 {
-        os::fail(&path[..length]);
+    if os::arg_count() < 2 {
+        print::text(b"usage: engine_bench LOG\n");
         return;
     }
     let mut input = [0u8; 147456];
-    let n = io::read_full(fd, &mut input);
-    libc::close(fd);
+    let n = files::read(1, &mut input);
     run(&input[..n]);
 }

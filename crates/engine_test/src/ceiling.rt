@@ -2,12 +2,13 @@
 // goes on.
 use crate::edit;
 use crate::limits;
-use crate::print;
+use crate::view;
 use rules::calls::Command;
 use rules::calls::Event;
 use rules::calls::Request;
 use rules::limits::COMMAND_CEILING;
 use rules::units::Milliseconds;
+use testing::print;
 
 pub fn run() {
     let t = Milliseconds(1_000);
@@ -15,7 +16,7 @@ pub fn run() {
     print::text(b"ceiling\n");
     let a = limits::call(b"open ", r, Event::ContactorCommand(t, Command::Open));
     print::text(b"\n");
-    print::record(a);
+    view::record(a);
     limits::call(
         b"automated ",
         a,
@@ -34,5 +35,5 @@ pub fn run() {
     );
     let c = limits::call(b", power loss ", b, Event::PowerLoss(t));
     print::text(b"\n");
-    print::record(c);
+    view::record(c);
 }

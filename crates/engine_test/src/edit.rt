@@ -18,7 +18,7 @@ use rules::units::Milliamperes;
 use rules::units::Milliseconds;
 
 // Type 1, Operational, its last time 1,000 ms, all else as in a fresh record.
-pub fn base() -> Record {
+fn base() -> Live {
     let f = engine::fresh(1);
     let r = f.start;
     let l = r.live;
@@ -27,36 +27,42 @@ pub fn base() -> Record {
         state: State::Operational,
         ..c
     };
-    let live = Live {
+    Live {
         last: Milliseconds(1000),
         control,
         ..l
-    };
-    Record { live, ..r }
+    }
+}
+
+fn no_entries() -> Stores {
+    let f = engine::fresh(1);
+    let r = f.start;
+    r.stores
+}
+
+fn with_live(live: Live) -> Record {
+    Record {
+        live,
+        stores: no_entries(),
+    }
 }
 
 pub fn battery(n: u8) -> Record {
-    let r = base();
-    let l = r.live;
-    let live = Live { battery: n, ..l };
-    Record { live, ..r }
+    let l = base();
+    with_live(Live { battery: n, ..l })
 }
 
 pub fn last(t: u32) -> Record {
-    let r = base();
-    let l = r.live;
-    let live = Live {
+    let l = base();
+    with_live(Live {
         last: Milliseconds(t),
         ..l
-    };
-    Record { live, ..r }
+    })
 }
 
 fn with_tally(tally: Tally) -> Record {
-    let r = base();
-    let l = r.live;
-    let live = Live { tally, ..l };
-    Record { live, ..r }
+    let l = base();
+    with_live(Live { tally, ..l })
 }
 
 pub fn accounts(charged: u64, discharged: u64) -> Record {
@@ -76,16 +82,13 @@ pub fn commands(n: u32) -> Record {
 }
 
 fn base_watch() -> Watch {
-    let r = base();
-    let l = r.live;
+    let l = base();
     l.watch
 }
 
 fn with_watch(watch: Watch) -> Record {
-    let r = base();
-    let l = r.live;
-    let live = Live { watch, ..l };
-    Record { live, ..r }
+    let l = base();
+    with_live(Live { watch, ..l })
 }
 
 pub fn mask(mask: u16) -> Record {
@@ -113,14 +116,15 @@ pub fn span(protection: usize, span: Span) -> Record {
 }
 
 fn with_stores(stores: Stores) -> Record {
-    let r = base();
-    Record { stores, ..r }
+    Record {
+        live: base(),
+        stores,
+    }
 }
 
 // Long-term entries of protection 0 at 0 ms, save one place that holds another protection.
 pub fn long(count: usize, place: usize, protection: u8) -> Record {
-    let r = base();
-    let s = r.stores;
+    let s = no_entries();
     let f = s.long;
     let mut protections = f.protections;
     if place < LONG_TERM_ENTRIES {
@@ -136,8 +140,7 @@ pub fn long(count: usize, place: usize, protection: u8) -> Record {
 
 // The same of the short-term store; the entry in that place is a release.
 pub fn short(count: usize, place: usize, protection: u8) -> Record {
-    let r = base();
-    let s = r.stores;
+    let s = no_entries();
     let f = s.short;
     let mut protections = f.protections;
     let mut releases = f.releases;

@@ -7,7 +7,6 @@ ghost use lib.ListN.{length};
 ghost use Rattle.engine_test.specs.Verdicts.{filledTo};
 use crate::compare;
 use crate::edit;
-use crate::print;
 use rules::answers::Written;
 use rules::battery::Record;
 use rules::calls::Event;
@@ -15,13 +14,11 @@ use rules::limits::LONG_TERM_ENTRIES;
 use rules::limits::SHORT_TERM_ENTRIES;
 use rules::session::Span;
 use rules::units::Milliseconds;
+use testing::print;
+use testing::slice;
+use testing::table;
+use testing::table::Next;
 use words::read;
-
-fn wide(x: u8) -> usize
-    ensures { λ r. ⌜ r ≡ x ⌝ }
-{
-    x as usize
-}
 
 // Of the byte that every buffer is filled with.
 fn untouched(s: &[u8]) -> bool
@@ -47,14 +44,12 @@ fn print_kept(kept: bool) {
 fn print_written(w: Written, buffer: &[u8]) {
     match w {
         Written::Bytes(n) => {
-            print::number(n as u64);
-            if n <= buffer.len() {
-                print_kept(untouched(&buffer[n..]));
-            }
+            print::decimal(n as u64);
+            print_kept(untouched(slice::part(buffer, n, buffer.len())));
         }
-        Written::Refused(n) => {
+        Written::Refused(refusal) => {
             print::text(b"refused ");
-            print::number(n as u64);
+            print::decimal(refusal as u64);
             print_kept(untouched(buffer));
         }
     }
@@ -82,7 +77,7 @@ fn exports(r: Record) {
 pub fn call(name: &[u8], r: Record, e: Event) -> Record {
     let o = engine::apply(r, e);
     print::text(name);
-    print::number(o.refusal as u64);
+    print::decimal(o.refusal as u64);
     if o.refusal != 0 {
         print_kept(compare::same(r, o.after));
     }
@@ -106,7 +101,7 @@ fn judge(r: Record) {
 // The sound record with one thing changed, by the eight bytes of a case: what is changed, a place, a small number, the length of the
 // case's name, and a number of four bytes.
 fn changed(head: &[u8]) -> Record {
-    let place = wide(read::byte_at(head, 1));
+    let place = slice::byte(head, 1);
     let small = read::byte_at(head, 2);
     let n = read::u32_at(head, 4);
     match read::byte_at(head, 0) {
@@ -130,19 +125,16 @@ fn case(head: &[u8], name: &[u8]) {
 }
 
 // The name stands after the eight bytes.
-fn cases(s: &[u8]) {
+fn cases(table: &[u8]) {
     let mut at: usize = 0;
-    while at < s.len() {
-        if s.len() - at < 8 {
+    while at < table.len() {
+        let Next::Case(start, end) = table::case_at(table, at, 8) else {
             return;
-        }
-        let start = at + 8;
-        let size = wide(s[at + 3]);
-        if s.len() - start < size {
-            return;
-        }
-        let end = start + size;
-        case(&s[at..start], &s[start..end]);
+        };
+        case(
+            slice::part(table, at, start),
+            slice::part(table, start, end),
+        );
         at = end;
     }
 }

@@ -1,31 +1,35 @@
 // Runs calls through the engine and prints the records that they leave, with the exports of their stores.
 // Each argument names a log, whose record is printed as it is after the last readable event; the first two are read step by step before
-// that. Records that no log leaves follow: unsound
-// ones and those just inside each limit, from the table on standard input, and one whose command count is next to its ceiling.
+// that. Records that no log leaves follow: unsound ones and those just inside each limit, from the table on standard input, and one whose
+// command count is next to its ceiling.
 mod ceiling;
 mod compare;
 mod edit;
 mod limits;
-mod print;
 mod steps;
+mod view;
 
+use log::extent;
 use log::reader;
 use rules::answers::ReadEvent;
 use rules::battery::Record;
+use testing::files;
+use testing::print;
 
-// The record after the last readable event. An event has at least five bytes, so that there are fewer turns than bytes.
-fn after(input: &[u8], start: Record) -> Record {
+// The record after the last readable event.
+fn after(events: &[u8], start: Record) -> Record {
+    let readable = extent::readable(events, events.len());
     let mut r = start;
-    let mut at: usize = 1;
-    let mut turns = input.len();
-    while 0 < turns {
-        let ReadEvent::Found(e, next) = reader::event_at(input, at) else {
+    let mut at: usize = 0;
+    let mut left = readable.count;
+    while 0 < left {
+        let ReadEvent::Found(e, next) = reader::event_at(events, at) else {
             return r;
         };
         let o = engine::apply(r, e);
         r = o.after;
         at = next;
-        turns -= 1;
+        left -= 1;
     }
     r
 }
@@ -33,23 +37,15 @@ fn after(input: &[u8], start: Record) -> Record {
 fn run(input: &[u8]) {
     if 0 < input.len() {
         let f = engine::fresh(input[0]);
-        print::record(after(input, f.start));
+        view::record(after(&input[1..], f.start));
     }
 }
 
 fn read_log(i: usize, by_steps: bool) {
-    let mut path = io::buffer();
-    let length = os::arg(i, &mut path);
-    print::text(&path[..length]);
+    files::print_name(i);
     print::text(b"\n");
-    let fd = os::open_read(&path[..length]);
-    if fd < 0 {
-        os::fail(&path[..length]);
-        return;
-    }
     let mut input = io::large_buffer();
-    let n = io::read_full(fd, &mut input);
-    libc::close(fd);
+    let n = files::read(i, &mut input);
     let log = &input[..n];
     if by_steps {
         steps::run(log);
@@ -72,7 +68,7 @@ fn main() {
     read_log(2, true);
     read_logs();
     let mut table = io::large_buffer();
-    let n = io::read_full(0, &mut table);
+    let n = io::read_full(libc::STDIN_FILENO, &mut table);
     limits::run(&table[..n]);
     ceiling::run();
 }

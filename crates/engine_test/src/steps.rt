@@ -4,9 +4,9 @@
 ghost use mathlib.Core.Path.{_≡_};
 ghost use lib.ListN.{drop};
 ghost use Rattle.rules.specs.Bytes.{nextPosition};
-use crate::print;
 use log::reader;
 use rules::answers::ReadEvent;
+use testing::print;
 
 fn rest_at(log: &[u8], position: usize) -> &[u8]
     ensures { λ s. ⌜ now s ≡ drop position (now (log .entry)) ⌝ }
@@ -18,14 +18,14 @@ fn print_answer(a: ReadEvent) {
     match a {
         ReadEvent::Found(_, next) => {
             print::text(b"found, next ");
-            print::number(next as u64);
+            print::decimal(next as u64);
         }
         ReadEvent::End => print::text(b"end"),
-        ReadEvent::Refused(n, at) => {
+        ReadEvent::Refused(refusal, at) => {
             print::text(b"refused ");
-            print::number(n as u64);
+            print::decimal(refusal as u64);
             print::text(b" at ");
-            print::number(at as u64);
+            print::decimal(at as u64);
         }
     }
 }
@@ -34,13 +34,13 @@ fn print_answer(a: ReadEvent) {
 fn print_read<'a>(log: &'a [u8], a: ReadEvent, position: usize, rest: &'a [u8]) {
     print_answer(a);
     print::text(b", position ");
-    print::number(position as u64);
+    print::decimal(position as u64);
     print::text(b", rest ");
-    print::number(rest.len() as u64);
+    print::decimal(rest.len() as u64);
     let other = rest_at(log, position);
     if other.len() != rest.len() {
         print::text(b", but from there ");
-        print::number(other.len() as u64);
+        print::decimal(other.len() as u64);
     }
     print::text(b"\n");
 }

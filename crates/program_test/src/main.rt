@@ -1,13 +1,13 @@
 // Runs each log that its arguments name through the console, as `sixt` runs its standard input, under a heading.
+use testing::files;
+use testing::print;
+
 fn run(i: usize) {
-    let mut path = io::buffer();
-    let length = os::arg(i, &mut path);
-    io::write_all(libc::STDOUT_FILENO, b"== ");
-    io::write_all(libc::STDOUT_FILENO, &path[..length]);
-    io::write_all(libc::STDOUT_FILENO, b"\n");
-    let log = os::open_read(&path[..length]);
+    print::text(b"== ");
+    files::print_name(i);
+    print::text(b"\n");
+    let log = files::open(i);
     if log < 0 {
-        os::fail(&path[..length]);
         return;
     }
     console::run(log, libc::STDOUT_FILENO);

@@ -7,31 +7,27 @@ ghost use Rattle.report_test.specs.Full.{isFull};
 use report::Part;
 use report::Progress;
 use report::Why;
-
-fn print(text: &[u8]) {
-    io::write_all(libc::STDOUT_FILENO, text);
-}
+use testing::print;
+use testing::slice;
 
 fn heading(n: usize, after: &[u8]) {
-    print(b"== ");
-    io::print_decimal(libc::STDOUT_FILENO, n as u64);
-    print(after);
+    print::text(b"== ");
+    print::decimal(n as u64);
+    print::text(after);
 }
 
 fn close(after: Progress, why: Why) {
     let mut text = io::buffer();
     let n = report::closing(after, why, &mut text);
-    print(&text[..n]);
+    print::text(slice::part(&text, 0, n));
 }
 
-// Prints the lines of a part.
-fn lines(part: &[u8], before: Progress) -> Part
+// Prints the lines of a part, as many as a buffer has room for.
+fn lines(part: &[u8], before: Progress, text: &mut [u8]) -> Part
     ensures { λ p. ⌜ p .read ≤ length (now (part .entry)) ⌝ }
 {
-    let mut text = io::buffer();
-    let p = report::lines(part, before, &mut text);
-    let written = p.written;
-    print(&text[..written]);
+    let p = report::lines(part, before, text);
+    print::text(slice::part(text, 0, p.written));
     p
 }
 
@@ -40,21 +36,19 @@ fn line(part: &[u8], before: Progress) -> Part
     ensures { λ p. ⌜ p .read ≤ length (now (part .entry)) ⌝ }
 {
     let mut text = [0u8; 72];
-    let p = report::lines(part, before, &mut text);
-    let written = p.written;
-    print(&text[..written]);
-    p
+    lines(part, before, &mut text)
 }
 
 // The text of a log that is handed over whole.
 fn whole(log: &[u8]) {
+    let mut text = io::buffer();
     let opening = report::opening(log);
     let start = opening.progress;
     if log.len() == 0 {
         close(start, Why::Refused(opening.refusal));
         return;
     }
-    let part = lines(&log[1..], start);
+    let part = lines(&log[1..], start, &mut text);
     let end = part.progress;
     let why = part.why;
     close(end, why);
@@ -62,22 +56,13 @@ fn whole(log: &[u8]) {
 
 // The text of a log that is handed over in two parts, what the first left unread with the second.
 fn divided(log: &[u8], n: usize) {
-    if n == 0 {
-        return;
-    }
-    if log.len() < n {
-        return;
-    }
-    let opening = report::opening(&log[..n]);
+    let mut text = io::buffer();
+    let opening = report::opening(slice::part(log, 0, n));
     let start = opening.progress;
-    let first = lines(&log[1..n], start);
+    let first = lines(slice::part(log, 1, n), start, &mut text);
     let middle = first.progress;
-    let read = first.read;
-    if n - 1 < read {
-        return;
-    }
-    let at = 1 + read;
-    let second = lines(&log[at..], middle);
+    let at = std::num::wrapping_add_usize(1, first.read);
+    let second = lines(slice::part(log, at, log.len()), middle, &mut text);
     let end = second.progress;
     let why = second.why;
     close(end, why);
@@ -87,7 +72,7 @@ fn prefixes(log: &[u8]) {
     let mut n: usize = 0;
     while n <= log.len() {
         heading(n, b"\n");
-        whole(&log[..n]);
+        whole(slice::part(log, 0, n));
         n += 1;
     }
 }
@@ -115,12 +100,12 @@ fn is_full(why: Why) -> bool
 
 // Each call is cut off by its buffer or by the end.
 fn line_by_line(log: &[u8]) {
-    print(b"== line by line\n");
+    print::text(b"== line by line\n");
     let opening = report::opening(log);
     let mut progress = opening.progress;
     let mut at: usize = 1;
     while at <= log.len() {
-        let part = line(&log[at..], progress);
+        let part = line(slice::part(log, at, log.len()), progress);
         progress = part.progress;
         let why = part.why;
         if !is_full(why) {

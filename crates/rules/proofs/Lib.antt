@@ -14,5 +14,6 @@ pub mod Closing
 pub mod Worthless
 pub mod Decimals
 pub mod ByteLaws
+pub mod LogLaws
 pub mod Listed
 pub mod Parts

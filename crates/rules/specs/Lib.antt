@@ -17,6 +17,7 @@ pub mod Soundness
 pub mod Shared
 pub mod Bytes
 pub mod Answers
+pub mod Logs
 pub mod Text
 pub mod Claims
 pub mod Examples

@@ -17,7 +17,8 @@ use Rattle.rules.specs.Stores.{longTerm}
 use Rattle.rules.specs.Accounts.{charged, discharged}
 use Rattle.rules.specs.Contactor.{isClosed}
 use Rattle.rules.specs.Shown.{longEntry, longEntries}
-use Rattle.rules.specs.Text.{eventLine, endLine, stopLine, Ending, atEnd, stopped, readLog, callLine, callLines, lastLine, logText, text}
+use Rattle.rules.specs.Logs.{Ending, atEnd, stopped, readLog}
+use Rattle.rules.specs.Text.{eventLine, endLine, stopLine, callLine, callLines, lastLine, logText, text}
 use Rattle.rules.proofs.Lists.{length-tabulate}
 use Rattle.rules.proofs.Bools.{is-true}
 use Rattle.step.specs.Fresh.{freshRecord}

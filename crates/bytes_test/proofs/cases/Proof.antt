@@ -1,86 +1,50 @@
-use Prim.Native.Nat.{_-_, _≤_}
+use mathlib.Core.Path.{sym, _∙_}
+use Prim.Native.Nat.{_-_}
+use native.Mathlib.Omega.{arith}
 use lib.ListN.{length}
+use Rattle.testing.proofs.Walking.{case-inside}
 use borrow.Author.Needs.{needs}
 use Rattle.bytes_test.proofs.cases.Statement.{statement}
 use Rattle.bytes_test.proofs.cases.Tie as tie
 
 abbrev Inv-loop : tie.InvT-loop
-Inv-loop s at₀ at = at ≤ length s
+Inv-loop table at₀ at = Unit {0}
 
 abbrev μ-loop : tie.MeasureT-loop
-μ-loop s at₀ at = length s - at
+μ-loop table at₀ at = length table - at
 
 loop-holds : tie.Need-loop-holds Inv-loop μ-loop
 loop-holds c = search needs
 
-sub-if1 : tie.Need-sub-if1 Inv-loop μ-loop
-sub-if1 c = search needs
+case-at-requires : tie.Need-case-at-requires Inv-loop μ-loop
+case-at-requires c κs = search needs
+
+enum-known-start : tie.Need-enum-known-start Inv-loop μ-loop
+enum-known-start c = search needs
+
+enum-told : tie.Need-enum-told Inv-loop μ-loop
+enum-told c = search needs
 
 returns : tie.Need-returns Inv-loop μ-loop
 returns c = search needs
 
-add-start : tie.Need-add-start Inv-loop μ-loop
-add-start c = search needs
+part-requires : tie.Need-part-requires Inv-loop μ-loop
+part-requires c κs = search needs
 
-add-wide : tie.Need-add-wide Inv-loop μ-loop
-add-wide c = search needs
+part-requires-2 : tie.Need-part-requires-2 Inv-loop μ-loop
+part-requires-2 c κs = search needs
 
-shared-slice-read-wide : tie.Need-shared-slice-read-wide Inv-loop μ-loop
-shared-slice-read-wide c = search needs
-
-wide-requires : tie.Need-wide-requires Inv-loop μ-loop
-wide-requires c κs = search needs
-
-sub-if2 : tie.Need-sub-if2 Inv-loop μ-loop
-sub-if2 c = search needs
-
-returns-2 : tie.Need-returns-2 Inv-loop μ-loop
-returns-2 c = search needs
-
-add-end : tie.Need-add-end Inv-loop μ-loop
-add-end c = search needs
-
-shared-slice-read-case : tie.Need-shared-slice-read-case Inv-loop μ-loop
-shared-slice-read-case c = search needs
-
-add-wide-2 : tie.Need-add-wide-2 Inv-loop μ-loop
-add-wide-2 c = search needs
-
-shared-slice-read-wide-2 : tie.Need-shared-slice-read-wide-2 Inv-loop μ-loop
-shared-slice-read-wide-2 c = search needs
-
-wide-requires-2 : tie.Need-wide-requires-2 Inv-loop μ-loop
-wide-requires-2 c κs = search needs
-
-add-wide-3 : tie.Need-add-wide-3 Inv-loop μ-loop
-add-wide-3 c = search needs
-
-shared-slice-read-wide-3 : tie.Need-shared-slice-read-wide-3 Inv-loop μ-loop
-shared-slice-read-wide-3 c = search needs
-
-wide-requires-3 : tie.Need-wide-requires-3 Inv-loop μ-loop
-wide-requires-3 c κs = search needs
-
-sub-case : tie.Need-sub-case Inv-loop μ-loop
-sub-case c = search needs
-
-part-case-start : tie.Need-part-case-start Inv-loop μ-loop
-part-case-start c = search needs
-
-part-case-end : tie.Need-part-case-end Inv-loop μ-loop
-part-case-end c = search needs
-
-case-requires : tie.Need-case-requires Inv-loop μ-loop
-case-requires c κs = search needs
+case-by-requires : tie.Need-case-by-requires Inv-loop μ-loop
+case-by-requires c κs = search needs
 
 loop-less : tie.Need-loop-less Inv-loop μ-loop
-loop-less c = search needs
+loop-less c = let inside = case-inside _ _ _ (sym (c .before .before .before .before .before .before .case-at .ensures) ∙ c .before .before .before .before .start .given .1) in omega (arith, inside .0, inside .1, inside .2)
 
 loop-again : tie.Need-loop-again Inv-loop μ-loop
 loop-again c = search needs
 
-returns-3 : tie.Need-returns-3 Inv-loop μ-loop
-returns-3 c = search needs
+returns-2 : tie.Need-returns-2 Inv-loop μ-loop
+returns-2 c = search needs
 
 pub cases-spec : {M : Type 1} → statement M
 cases-spec =
@@ -89,26 +53,13 @@ cases-spec =
     Inv-loop
     μ-loop
     loop-holds
-    sub-if1
+    case-at-requires
+    enum-known-start
+    enum-told
     returns
-    add-start
-    add-wide
-    shared-slice-read-wide
-    wide-requires
-    sub-if2
-    returns-2
-    add-end
-    shared-slice-read-case
-    add-wide-2
-    shared-slice-read-wide-2
-    wide-requires-2
-    add-wide-3
-    shared-slice-read-wide-3
-    wide-requires-3
-    sub-case
-    part-case-start
-    part-case-end
-    case-requires
+    part-requires
+    part-requires-2
+    case-by-requires
     loop-less
     loop-again
-    returns-3)
+    returns-2)

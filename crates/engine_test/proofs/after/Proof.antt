@@ -3,10 +3,13 @@ use Rattle.engine_test.proofs.after.Statement.{statement}
 use Rattle.engine_test.proofs.after.Tie as tie
 
 abbrev Inv-loop : tie.InvT-loop
-Inv-loop input r₀ at₀ turns₀ r at turns = Unit {0}
+Inv-loop events r₀ at₀ left₀ r at left = Unit {0}
 
 abbrev μ-loop : tie.MeasureT-loop
-μ-loop input r₀ at₀ turns₀ r at turns = turns
+μ-loop events r₀ at₀ left₀ r at left = left
+
+readable-requires : tie.Need-readable-requires Inv-loop μ-loop
+readable-requires c κs = search needs
 
 loop-holds : tie.Need-loop-holds Inv-loop μ-loop
 loop-holds c = search needs
@@ -23,8 +26,8 @@ returns c = search needs
 apply-requires : tie.Need-apply-requires Inv-loop μ-loop
 apply-requires c κs = search needs
 
-sub-turns : tie.Need-sub-turns Inv-loop μ-loop
-sub-turns c = search needs
+sub-left : tie.Need-sub-left Inv-loop μ-loop
+sub-left c = search needs
 
 loop-less : tie.Need-loop-less Inv-loop μ-loop
 loop-less c = search needs
@@ -41,12 +44,13 @@ after-spec =
     (tie.spec
     Inv-loop
     μ-loop
+    readable-requires
     loop-holds
     event-at-requires
     enum-known-e
     returns
     apply-requires
-    sub-turns
+    sub-left
     loop-less
     loop-again
     returns-2)

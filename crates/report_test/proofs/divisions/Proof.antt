@@ -1,6 +1,6 @@
-use borrow.Author.Needs.{needs}
-use lib.ListN.{length}
 use Prim.Native.Nat.{_≤_, _-_, _+_}
+use lib.ListN.{length}
+use borrow.Author.Needs.{needs}
 use Rattle.report_test.proofs.divisions.Statement.{statement}
 use Rattle.report_test.proofs.divisions.Tie as tie
 

@@ -1,20 +1,21 @@
-use borrow.Author.Needs.{needs}
+use Prim.Native.Nat.{_-_, _+_, _<_, _^_}
 use lib.ListN.{length}
-use Prim.Native.Nat.{_-_, _+_}
+use borrow.Author.Needs.{needs}
 use Rattle.report_test.proofs.line_by_line.Statement.{statement}
 use Rattle.report_test.proofs.line_by_line.Tie as tie
 
+-- the log's length is carried to where the position grows
 abbrev Inv-loop : tie.InvT-loop
-Inv-loop log progress₀ at₀ progress at = Unit {0}
+Inv-loop log progress₀ at₀ progress at = length log < 2 ^ 64
 
 abbrev μ-loop : tie.MeasureT-loop
 μ-loop log progress₀ at₀ progress at = length log + 1 - at
 
-slice-aggregate-print : tie.Need-slice-aggregate-print Inv-loop μ-loop
-slice-aggregate-print c = search needs
+slice-aggregate-text : tie.Need-slice-aggregate-text Inv-loop μ-loop
+slice-aggregate-text c = search needs
 
-print-requires : tie.Need-print-requires Inv-loop μ-loop
-print-requires c κs = search needs
+text-requires : tie.Need-text-requires Inv-loop μ-loop
+text-requires c κs = search needs
 
 opening-requires : tie.Need-opening-requires Inv-loop μ-loop
 opening-requires c κs = search needs
@@ -22,14 +23,8 @@ opening-requires c κs = search needs
 loop-holds : tie.Need-loop-holds Inv-loop μ-loop
 loop-holds c = search needs
 
-sub-line : tie.Need-sub-line Inv-loop μ-loop
-sub-line c = search needs
-
-part-line-start : tie.Need-part-line-start Inv-loop μ-loop
-part-line-start c = search needs
-
-part-line-end : tie.Need-part-line-end Inv-loop μ-loop
-part-line-end c = search needs
+part-requires : tie.Need-part-requires Inv-loop μ-loop
+part-requires c κs = search needs
 
 line-requires : tie.Need-line-requires Inv-loop μ-loop
 line-requires c κs = search needs
@@ -70,13 +65,11 @@ line-by-line-spec =
     (tie.spec
     Inv-loop
     μ-loop
-    slice-aggregate-print
-    print-requires
+    slice-aggregate-text
+    text-requires
     opening-requires
     loop-holds
-    sub-line
-    part-line-start
-    part-line-end
+    part-requires
     line-requires
     is-full-requires
     close-requires

@@ -1,8 +1,6 @@
-use borrow.Author.Needs.{needs}
-use lib.ListN.{length}
-use lib.Seq.{length-take-le}
-use mathlib.Core.Path.{sym}
 use Prim.Native.Nat.{_≤_, _-_, _+_}
+use lib.ListN.{length}
+use borrow.Author.Needs.{needs}
 use Rattle.report_test.proofs.prefixes.Statement.{statement}
 use Rattle.report_test.proofs.prefixes.Tie as tie
 
@@ -21,8 +19,8 @@ slice-aggregate-heading c = search needs
 heading-requires : tie.Need-heading-requires Inv-loop μ-loop
 heading-requires c κs = search needs
 
-slice-aggregate-whole : tie.Need-slice-aggregate-whole Inv-loop μ-loop
-slice-aggregate-whole c = sym (length-take-le _ _ (search needs))
+part-requires : tie.Need-part-requires Inv-loop μ-loop
+part-requires c κs = search needs
 
 whole-requires : tie.Need-whole-requires Inv-loop μ-loop
 whole-requires c κs = search needs
@@ -48,7 +46,7 @@ prefixes-spec =
     loop-holds
     slice-aggregate-heading
     heading-requires
-    slice-aggregate-whole
+    part-requires
     whole-requires
     add-n
     loop-less

@@ -19,7 +19,7 @@ pub fn run(input: i32, output: i32) {
         parts::close(output, progress, Why::Refused(opening.refusal));
         return;
     }
-    let start = parts::Stand {
+    let start = parts::RunState {
         progress,
         at: 1,
         have,

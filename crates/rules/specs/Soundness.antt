@@ -33,7 +33,7 @@ KeptInRange (Frame t i) = T (currentInRange i)
 
 -- every counted protection number is at most 7
 abbrev pub ProtectionsBelow8 : ℕ → List ℕ → Type 0
-ProtectionsBelow8 count numbers = (place : ℕ) → place < count → getD numbers place 0 ≤ 7
+ProtectionsBelow8 count protections = (place : ℕ) → place < count → getD protections place 0 ≤ 7
 
 -- the most that an account may hold at a last time: "2,000,000 × last time", the greatest current all that time
 abbrev pub accountLimit : Milliseconds → Charge

@@ -110,7 +110,7 @@ module _ (s : Stores) (picks : ℕ → Bool) (slots : ℕ → Slot) (is : (i : �
           (added-entry s sofar (longs ++ longsTo n) (shorts ++ shortsTo n) before (slots n) (omega (arith, is n)))
       go false before = rw (append-nil (longsTo n), append-nil (shortsTo n)) before
 
--- what stands below 8
+-- two lists of entries that are alike for each protection, and one that has none
 ascending-same : (f g : ℕ → List Entry) (n : ℕ) → ((i : ℕ) → i < n → f i ≡ g i) → ascending f n ≡ ascending g n
 ascending-same f g zero h = refl
 ascending-same f g (suc n) h = ap₂ (λ (xs ys : List Entry). xs ++ ys) (ascending-same f g n (λ i k. h i (omega arith))) (h n (omega arith))

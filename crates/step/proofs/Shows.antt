@@ -81,10 +81,10 @@ watch-none battery = record {
     all-clear protection h = lib.ListN.getD-replicate 8 protection _ _ h
 
 pub long-none : LongFits noLongTerm
-long-none = record { sized = record { times = refl; protections = refl; values = refl }; count = omega arith; below8 = λ place h. absurd (not-suc-le-zero h) }
+long-none = record { sized = search; count = omega arith; below8 = λ place h. absurd (not-suc-le-zero h) }
 
 pub short-none : ShortFits noShortTerm
-short-none = record { sized = record { times = refl; protections = refl; values = refl; releases = refl }; count = omega arith; below8 = λ place h. absurd (not-suc-le-zero h) }
+short-none = record { sized = search; count = omega arith; below8 = λ place h. absurd (not-suc-le-zero h) }
 
 pub shows-fresh : (battery : ℕ) → T (isType battery) → Shows (freshRecord battery) atFirst []
 unfolding longEntries shortEntries

@@ -48,17 +48,17 @@ type-is b = (λ h. to (leb→le 1 b (h .0)) (leb→le b 3 (h .1)), λ h. back (e
 
 -- ---- the counted places of a store
 
-pub below8-is : (n : ℕ) (numbers : List ℕ) → T (below8 n numbers) ↔ ProtectionsBelow8 n numbers
-below8-is zero numbers = (λ h place k. absurd (not-suc-le-zero k), λ f. tt)
-below8-is (suc n) numbers = step (below8-is n numbers)
+pub below8-is : (n : ℕ) (protections : List ℕ) → T (below8 n protections) ↔ ProtectionsBelow8 n protections
+below8-is zero protections = (λ h place k. absurd (not-suc-le-zero k), λ f. tt)
+below8-is (suc n) protections = step (below8-is n protections)
   where
-    here : T (below8 n numbers && leb (getD numbers n 0) 7) ↔ (T (below8 n numbers) × T (leb (getD numbers n 0) 7))
-    here = and-iff (below8 n numbers) (leb (getD numbers n 0) 7)
+    here : T (below8 n protections && leb (getD protections n 0) 7) ↔ (T (below8 n protections) × T (leb (getD protections n 0) 7))
+    here = and-iff (below8 n protections) (leb (getD protections n 0) 7)
 
-    step : T (below8 n numbers) ↔ ProtectionsBelow8 n numbers → T (below8 (suc n) numbers) ↔ ProtectionsBelow8 (suc n) numbers
+    step : T (below8 n protections) ↔ ProtectionsBelow8 n protections → T (below8 (suc n) protections) ↔ ProtectionsBelow8 (suc n) protections
     step rest = (λ h place k. last-or h place (eq-or-lt-of-le (le-of-suc-le-suc k)), λ f. here .1 (rest .1 (λ place k. f place (omega arith)), le→leb _ _ (f n (omega arith))))
       where
-        last-or : T (below8 (suc n) numbers) → (place : ℕ) → (place ≡ n) ⊎ (place < n) → getD numbers place 0 ≤ 7
+        last-or : T (below8 (suc n) protections) → (place : ℕ) → (place ≡ n) ⊎ (place < n) → getD protections place 0 ≤ 7
         last-or h place (inl e) = rw e (leb→le _ _ (here .0 h .1))
         last-or h place (inr k) = rest .0 (here .0 h .0) place k
 

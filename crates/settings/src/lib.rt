@@ -82,24 +82,19 @@ fn command_after(change: bool, c: Command) -> Command
     if change { Command::Automated } else { c }
 }
 
-fn requested(q: Request, c: Control) -> Control
-    ensures { λ n. ⌜ n ≡ requestControl q c ⌝ }
+pub fn request(t: Milliseconds, q: Request, l: Live) -> Live
+    ensures { λ n. ⌜ n ≡ setLive t (requestControl q (l .control)) (l .tally) l ⌝ }
 {
+    let c = l.control;
     let s = c.state;
     let was = c.command;
     let state = state_named(q);
     let command = command_after(is_change(s, q), was);
-    Control {
+    let control = Control {
         state,
         command,
         overriding: !enters_dormant(s, q) & c.overriding,
-    }
-}
-
-pub fn request(t: Milliseconds, q: Request, l: Live) -> Live
-    ensures { λ n. ⌜ n ≡ setLive t (requestControl q (l .control)) (l .tally) l ⌝ }
-{
-    let control = requested(q, l.control);
+    };
     Live {
         last: t,
         control,

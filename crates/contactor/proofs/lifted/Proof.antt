@@ -9,4 +9,7 @@ returns c =
     lifted-is (start .args .battery) (start .args .on) (start .args .t3)
 
 pub lifted-spec : {M : Type 1} → statement M
-lifted-spec = tie.close (search (tie.spec, returns, needs))
+lifted-spec =
+    tie.close
+    (tie.spec (λ c. search needs) (λ c. search needs) (λ c. search needs) (λ c. search needs)
+    (λ c. search needs) (λ c. search needs) (λ c. search needs) (λ c. search needs) returns)

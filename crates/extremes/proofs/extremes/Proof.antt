@@ -23,4 +23,7 @@ returns c =
     λ i. record { highest = high i; lowest = low i; hottest = c .before .hottest .ensures i; coldest = c .coldest .ensures i }
 
 pub extremes-spec : {M : Type 1} → statement M
-extremes-spec = tie.close (search (tie.spec, returns, needs))
+extremes-spec =
+    tie.close
+    (tie.spec (λ c κs. search needs) (λ c κs. search needs) (λ c κs. search needs) (λ c κs. search needs)
+    (λ c κs. search needs) (λ c κs. search needs) (λ c κs. search needs) (λ c κs. search needs) returns)

@@ -22,4 +22,8 @@ returns c =
     (c .before .before .before .before .before .before .before .before .before .before .permitted .ensures) (c .before .before .before .before .before .before .before .before .before .discharge-limit .ensures))
 
 pub sides-spec : {M : Type 1} → statement M
-sides-spec = tie.close (search (tie.spec, over-charge-requires, returns, needs))
+sides-spec =
+    tie.close
+    (tie.spec (λ c κs. search needs) (λ c κs. search needs) (λ c κs. search needs) (λ c κs. search needs)
+    (λ c κs. search needs) (λ c κs. search needs) (λ c κs. search needs) (λ c κs. search needs)
+    over-charge-requires (λ c κs. search needs) (λ c κs. search needs) (λ c κs. search needs) returns)

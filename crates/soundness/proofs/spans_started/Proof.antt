@@ -6,4 +6,9 @@ returns : tie.Need-returns
 returns c = cc
 
 pub spans-started-spec : {M : Type 1} → statement M
-spans-started-spec = tie.close (search (tie.spec, returns, needs))
+spans-started-spec =
+    tie.close
+    (tie.spec (λ c. search needs) (λ c κs. search needs) (λ c. search needs) (λ c κs. search needs)
+    (λ c. search needs) (λ c κs. search needs) (λ c. search needs) (λ c κs. search needs) (λ c. search needs)
+    (λ c κs. search needs) (λ c. search needs) (λ c κs. search needs) (λ c. search needs)
+    (λ c κs. search needs) (λ c. search needs) (λ c κs. search needs) returns)

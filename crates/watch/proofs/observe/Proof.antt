@@ -21,4 +21,7 @@ returns c =
     )
 
 pub observe-spec : {M : Type 1} → statement M
-observe-spec = tie.close (search (tie.spec, returns, needs))
+observe-spec =
+    tie.close
+    (tie.spec (λ c κs. search needs) (λ c κs. search needs) (λ c κs. search needs) (λ c κs. search needs)
+    (λ c κs. search needs) (λ c κs. search needs) (λ c κs. search needs) returns)

@@ -1,5 +1,6 @@
 // The files that a program's arguments name.
 ghost use Rattle.io.specs.Counts.{Counts};
+ghost use Rattle.testing.specs.Files.{Opened};
 use crate::print;
 
 // Prints argument i.
@@ -9,13 +10,16 @@ pub fn print_name(i: usize) {
     print::text(&path[..length]);
 }
 
-// A descriptor of the file that argument i names, for reading. Where there is none, standard error says why, and the answer is negative.
-pub fn open(i: usize) -> i32 {
+// A descriptor of the file that argument i names, for reading. Where there is none, standard error says why, and the answer is -1.
+pub fn open(i: usize) -> i32
+    ensures { λ fd. ⌜ Opened fd ⌝ }
+{
     let mut path = io::buffer();
     let length = os::arg(i, &mut path);
     let fd = os::open_read(&path[..length]);
     if fd < 0 {
         os::fail(&path[..length]);
+        return -1;
     }
     fd
 }

@@ -15,7 +15,6 @@ use testing::print;
 use testing::slice;
 use testing::table;
 use testing::table::Next;
-use words::read;
 
 // A value stands after a space.
 fn value(n: u64) {
@@ -156,7 +155,7 @@ fn event_into(e: Event, buffer: &mut [u8]) {
 }
 
 fn entry_into(e: Entry, buffer: &mut [u8]) {
-    print_written(entries::write::write_entry(e, buffer), buffer);
+    print_written(entry_writer::write_entry(e, buffer), buffer);
 }
 
 fn event_case(s: &[u8], position: usize, buffer: &mut [u8]) {
@@ -176,7 +175,7 @@ fn event_case(s: &[u8], position: usize, buffer: &mut [u8]) {
 }
 
 fn entry_case(s: &[u8], position: usize, buffer: &mut [u8]) {
-    match entries::read::read_entry(s, position) {
+    match entry_reader::read_entry(s, position) {
         ReadEntry::Found(e, next) => {
             print_entry(e);
             print::text(b", next");
@@ -197,7 +196,7 @@ fn write_case(e: Entry, buffer: &mut [u8]) {
 }
 
 fn case(which: u8, position: usize, s: &[u8], buffer: &mut [u8]) {
-    let p = read::byte_at(s, 0);
+    let p = word_reader::byte_at(s, 0);
     match which {
         0 => event_case(s, position, buffer),
         1 => entry_case(s, position, buffer),
@@ -212,7 +211,7 @@ fn case_by(head: &[u8], s: &[u8]) {
     let room = slice::byte(head, 2);
     if room <= 64 {
         case(
-            read::byte_at(head, 0),
+            word_reader::byte_at(head, 0),
             slice::byte(head, 1),
             s,
             &mut buffer[..room],

@@ -2,7 +2,7 @@
 // standard error and writes no last line, so that what it wrote never looks like a whole table.
 mod parts;
 
-use report::Why;
+use decision::Why;
 
 // The input is a type byte and then events; the output is a line for each event and a last line.
 pub fn run(input: i32, output: i32) {

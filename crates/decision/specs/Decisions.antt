@@ -2,8 +2,8 @@
 use Prim.Native.Nat.{zero, suc}
 use mathlib.Core.Bool.{Bool, true, false, cond}
 use lib.IntN.{ℤ, pos, negsuc}
-use Rattle.report.specs.declared.Why.{Why}
-use Rattle.report.specs.declared.Why.the-variants.{Full, End, Cut, Refused, Spent}
+use Rattle.decision.specs.declared.Why.{Why}
+use Rattle.decision.specs.declared.Why.the-variants.{Full, End, Cut, Refused, Spent}
 use Rattle.decision.specs.declared.Next.{Next}
 use Rattle.decision.specs.declared.Next.the-variants.{Again, Read, Close, Unread, Unwritten, Uncounted}
 

@@ -1,7 +1,22 @@
-// What a run of the program does next. All that decides it stands here; `console` does what is decided.
+// What a run of the program does next, and why the lines of a part end, which `report` answers. All that decides it stands here; `console`
+// does what is decided.
 ghost use mathlib.Core.Path.{_≡_};
+ghost use lib.Dec.{eqb};
 ghost use Rattle.decision.specs.Decisions.{afterLines, afterPart, afterRead, reads, ends};
-use report::Why;
+
+// Why no more events were taken from a part.
+pub enum Why {
+    // the output has no room for another line
+    Full,
+    // no byte is left
+    End,
+    // the part ends within an event
+    Cut,
+    // bytes that can't be read, with document 01's number
+    Refused(u8),
+    // the event's number, or a position in the part, would not fit in 64 bits
+    Spent,
+}
 
 pub enum Next {
     // the rest of what is in the buffer
@@ -27,6 +42,13 @@ fn after_lines(why: Why) -> Next
         Why::Refused(_) => Next::Close,
         Why::Spent => Next::Uncounted,
     }
+}
+
+// Whether the lines of a part were all written, of how many bytes were and how many there are.
+pub fn all_written(put: usize, written: usize) -> bool
+    ensures { λ b. ⌜ b ≡ eqb put written ⌝ }
+{
+    put == written
 }
 
 // After the lines of a part: nothing goes on, and nothing is closed, where they were not all written.

@@ -25,16 +25,16 @@ use Rattle.engine.proofs.write_stores as run-write-stores
 use Rattle.engine.proofs.sound as run-sound
 use Rattle.engine.proofs.contactor as run-contactor
 use Rattle.event_reader.proofs.read_event as run-read-event
-use Rattle.entries.proofs.read.read_entry as run-read-entry
+use Rattle.entry_reader.proofs.read_entry as run-read-entry
 use Rattle.event_writer.proofs.write_event as run-write-event
-use Rattle.entries.proofs.write.write_entry as run-write-entry
+use Rattle.entry_writer.proofs.write_entry as run-write-entry
 use Rattle.export.proofs.export_long as run-export-long
 use Rattle.export.proofs.export_short as run-export-short
-use Rattle.log.proofs.reader.starting_at as run-starting-at
-use Rattle.log.proofs.reader.peek as run-peek
-use Rattle.log.proofs.reader.next as run-next
-use Rattle.log.proofs.reader.rest as run-rest
-use Rattle.log.proofs.reader.event_at as run-event-at
+use Rattle.reader.proofs.starting_at as run-starting-at
+use Rattle.reader.proofs.peek as run-peek
+use Rattle.reader.proofs.next as run-next
+use Rattle.reader.proofs.rest as run-rest
+use Rattle.log.proofs.event_at as run-event-at
 
 module _
     (M : Type 1)

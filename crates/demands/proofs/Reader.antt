@@ -16,9 +16,9 @@ use denote.Triple.Clauses.{AtExit}
 use Rattle.rules.specs.declared.answers.ReadEvent.{ReadEvent}
 use Rattle.rules.specs.Numbers.{answerOfReadEvent}
 use Rattle.rules.specs.Bytes.{eventForms}
-use Rattle.log.specs.declared.reader.Read.{Read}
-use Rattle.log.proofs.reader.next as next
-use Rattle.log.proofs.reader.event_at.Reads as event-at
+use Rattle.reader.specs.declared.Read.{Read}
+use Rattle.reader.proofs.next as next
+use Rattle.log.proofs.event_at.Reads as event-at
 use Rattle.rules.specs.Answers.{ReadAllows}
 use Rattle.rules.proofs.Listed.{reading-allows, reader-allows}
 use Rattle.demands.specs.Reader.{NextAllows}

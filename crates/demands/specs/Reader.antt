@@ -4,8 +4,8 @@ use denote.Ref.{now}
 use Rattle.rules.specs.Numbers.{answerOfReadEvent}
 use Rattle.rules.specs.Bytes.{eventForms}
 use Rattle.rules.specs.Answers.{ReaderAllows}
-use Rattle.log.specs.declared.reader.Reader.{Reader}
-use Rattle.log.specs.declared.reader.Read.{Read}
+use Rattle.reader.specs.declared.Reader.{Reader}
+use Rattle.reader.specs.declared.Read.{Read}
 use Rattle.position.specs.Position.{PartFrom}
 
 pub record NextAllows (before after : Reader) (r : Read) : Type 0 where

@@ -11,7 +11,7 @@ use Rattle.rules.specs.declared.answers.Outcome.{Outcome}
 use Rattle.step.specs.Sound.{soundLive, soundStores}
 use Rattle.step.specs.Refusal.{refusal, refusalLive}
 use Rattle.step.specs.Call.{advanceLive, advanceStores, advance, answer, call}
-use Rattle.changes.proofs.Measured.{unchanged}
+use Rattle.changes.proofs.Unchanged.{unchanged}
 use Rattle.advance.specs.Room.{advanceWithin}
 use Rattle.writing.specs.Changes.{changesStores}
 use Rattle.engine.proofs.Bounds.{room-by}

@@ -2,8 +2,6 @@
 // kept apart and written only where a call touches them. It prints how many events there are and how many calls are made, and for each of
 // three repetitions the processor time in nanoseconds, in all and per call, and the refusals: of calls on events that were read before, and
 // of reading and calls.
-use log::extent;
-use log::reader;
 use rules::answers::ReadEvent;
 use rules::battery::Record;
 use rules::calls::Event;
@@ -28,7 +26,7 @@ fn events(input: &[u8]) -> [Slot; SLOTS] {
     let mut at: usize = 1;
     let mut i: usize = 0;
     while i < SLOTS {
-        let ReadEvent::Found(e, next) = reader::event_at(input, at) else {
+        let ReadEvent::Found(e, next) = log::event_at(input, at) else {
             return slots;
         };
         slots[i] = Slot { event: e };
@@ -80,7 +78,7 @@ fn read_and_call(input: &[u8], first: Record) -> usize {
     let mut left = CALLS;
     while 0 < left {
         left -= 1;
-        let ReadEvent::Found(e, next) = reader::event_at(input, at) else {
+        let ReadEvent::Found(e, next) = log::event_at(input, at) else {
             at = 1;
             live = first.live;
             stores = first.stores;
@@ -144,7 +142,7 @@ fn run(input: &[u8]) {
         let f = engine::fresh(input[0]);
         let first = f.start;
         let slots = events(input);
-        let readable = extent::readable(slice::part(input, 1, input.len()), SLOTS);
+        let readable = log::readable(slice::part(input, 1, input.len()), SLOTS);
         let n = readable.count;
         print::line(b"events ", n as u64);
         print::line(b"calls ", CALLS as u64);

@@ -1,4 +1,4 @@
--- The table's columns by number, and the bounds that the tests' sums need.
+-- The bounds that the tests' sums need, and all eight rows.
 use mathlib.Core.Path.{_≡_, refl, sym, ap, _∙_}
 use mathlib.Core.Bool.{Bool, true, false, cond, _&&_}
 use mathlib.Core.List.{List, [], _∷_, map}
@@ -23,22 +23,6 @@ use Rattle.rules.specs.Quantities.{mV, mA, dC, _<mV_, _≤mV_, _<mA_, _≤mA_, 
 use Rattle.rules.specs.Protections.{Protection, table, rowOf, overvoltage, permittedAt, permitted, extremes}
 use Rattle.protection.specs.declared.Side.{Side}
 use Rattle.protection.specs.Rows.{sidesOf, valuesOf}
-
--- ---- a column of the table
-
-any-default : {A : Type 0} (xs : List A) (n : ℕ) (d e : A) → n < length xs → getD xs n d ≡ getD xs n e
-any-default [] n d e h = absurd (not-suc-le-zero h)
-any-default (x ∷ xs) zero d e h = refl
-any-default (x ∷ xs) (suc n) d e h = any-default xs n d e (le-of-suc-le-suc h)
-
-module _ (f : Protection → Milliseconds) (battery protection : ℕ) where
-  pub in-table : protection < 8 → (d : Milliseconds) → getD (map f (table battery)) protection d ≡ f (rowOf battery protection)
-  unfolding rowOf
-  in-table h d = any-default (map f (table battery)) protection d (f overvoltage) h ∙ List·getD-map f (table battery) protection overvoltage
-
-  pub past-table : 8 ≤ protection → f overvoltage ≡ f (rowOf battery protection)
-  unfolding rowOf
-  past-table h = ap f (sym (List·getD-eq-default (table battery) overvoltage h))
 
 -- ---- the permitted charge current
 

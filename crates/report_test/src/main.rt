@@ -4,9 +4,9 @@ ghost use mathlib.Core.Path.{_≡_};
 ghost use Prim.Native.Nat.{_≤_};
 ghost use lib.ListN.{length};
 ghost use Rattle.report_test.specs.Full.{isFull};
+use decision::Why;
 use report::Part;
 use report::Progress;
-use report::Why;
 use testing::print;
 use testing::slice;
 

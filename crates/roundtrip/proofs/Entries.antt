@@ -16,11 +16,11 @@ use Rattle.rules.specs.declared.answers.ReadEntry.{ReadEntry}
 use Rattle.rules.specs.declared.answers.ReadEntry.the-variants.{Found, End}
 use Rattle.rules.specs.declared.stores.Entry.{Entry}
 use Rattle.rules.specs.declared.stores.Entry.the-variants.{Trip, Release}
-use Rattle.words.proofs.Ranges.{above, within}
-use Rattle.words.specs.Decoding.{numbersFrom}
-use Rattle.entries.proofs.read.read_entry.Reads as read-entry
-use Rattle.entries.proofs.write.write_entry.Reads as write-entry
-use Rattle.entries.specs.Machine.{EntryInMachine}
+use Rattle.word_reader.proofs.Ranges.{above, within}
+use Rattle.word_reader.specs.Decoding.{numbersFrom}
+use Rattle.entry_reader.proofs.read_entry.Reads as read-entry
+use Rattle.entry_writer.proofs.write_entry.Reads as write-entry
+use Rattle.entry_writer.specs.Machine.{EntryInMachine}
 use Rattle.roundtrip.proofs.Chains.{written-then-read, read-then-written, whole-log}
 use Rattle.roundtrip.specs.Chains.{Items, Reader, Writer, bytesOf, ReadsBack, ReadToEnd, Wrote, WrittenAgain, Whole}
 

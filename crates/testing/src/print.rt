@@ -10,7 +10,7 @@ pub fn decimal(n: u64) {
 }
 
 pub fn signed(z: i32) {
-    let bits = words::write::bits32(z) as u64;
+    let bits = word_writer::bits32(z) as u64;
     if z < 0 {
         text(b"-");
         decimal(4_294_967_296 - bits);

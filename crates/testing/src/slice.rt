@@ -7,7 +7,7 @@ ghost use lib.ListN.{getD, take, drop};
 pub fn byte(s: &[u8], at: usize) -> usize
     ensures { λ r. ⌜ r ≡ getD (now (s .entry)) at 0 ⌝ }
 {
-    words::read::byte_at(s, at) as usize
+    word_reader::byte_at(s, at) as usize
 }
 
 // The bytes from one position up to another.

@@ -1,20 +1,14 @@
--- What is shown of a live part and of a store is what the whole record shows.
+-- The numbers shown of a live part and of a store.
 use mathlib.Core.Bool.{Bool, true, false}
 use mathlib.Core.Path.{_≡_, refl, sym}
 use lib.ListN.{length}
 use Rattle.rules.specs.declared.battery.Live.{Live}
-use Rattle.rules.specs.declared.battery.Record.{Record}
 use Rattle.rules.specs.declared.stores.LongTerm.{LongTerm}
 use Rattle.rules.specs.declared.stores.ShortTerm.{ShortTerm}
 use Rattle.rules.specs.Numbers.{contactorNumber}
-use Rattle.rules.specs.Shown.{longEntry, longEntries, shortEntry, shortEntries, trippedMask}
+use Rattle.rules.specs.Shown.{longEntry, longEntries, shortEntry, shortEntries}
 use Rattle.rules.proofs.Lists.{length-tabulate}
 use Rattle.step.specs.Close.{closes, contactorOf}
-use Rattle.step.specs.Print.{trippedOf}
-
-pub tripped-is : (r : Record) → trippedOf (r .live) ≡ trippedMask r
-unfolding trippedOf
-tripped-is r = refl
 
 -- as many entries as are counted
 pub long-length : (s : LongTerm) → s .count ≡ length (longEntries s)

@@ -24,8 +24,8 @@ fn track_protection(
 ) -> ProtectionState
     ensures { λ r. ⌜ r ≡ trackBy protection plausible side t s ⌝ }
 {
-    let hold = protection::hold(protection);
-    let release = protection::release(protection);
+    let hold = holds::hold(protection);
+    let release = holds::release(protection);
     tracking::track(
         plausible & side.beyond,
         plausible & side.within,

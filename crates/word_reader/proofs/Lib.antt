@@ -1,0 +1,4 @@
+pub mod Signed
+pub mod Matches
+pub mod Ranges
+pub mod Reading

@@ -1,16 +1,8 @@
 // Runs calls through the engine and prints the records that they leave, with the exports of their stores.
 // Each argument names a log, whose record is printed as it is after the last readable event; the first two are read step by step before
-// that. Records that no log leaves follow: unsound ones and those just inside each limit, from the table on standard input, and one whose
-// command count is next to its ceiling.
-mod ceiling;
-mod compare;
-mod edit;
-mod limits;
+// that.
 mod steps;
-mod view;
 
-use log::extent;
-use log::reader;
 use rules::answers::ReadEvent;
 use rules::battery::Record;
 use testing::files;
@@ -18,12 +10,12 @@ use testing::print;
 
 // The record after the last readable event.
 fn after(events: &[u8], start: Record) -> Record {
-    let readable = extent::readable(events, events.len());
+    let readable = log::readable(events, events.len());
     let mut r = start;
     let mut at: usize = 0;
     let mut left = readable.count;
     while 0 < left {
-        let ReadEvent::Found(e, next) = reader::event_at(events, at) else {
+        let ReadEvent::Found(e, next) = log::event_at(events, at) else {
             return r;
         };
         let o = engine::apply(r, e);
@@ -37,7 +29,8 @@ fn after(events: &[u8], start: Record) -> Record {
 fn run(input: &[u8]) {
     if 0 < input.len() {
         let f = engine::fresh(input[0]);
-        view::record(after(&input[1..], f.start));
+        let r = after(&input[1..], f.start);
+        record_text::print(r, engine::contactor(r));
     }
 }
 
@@ -67,8 +60,4 @@ fn main() {
     read_log(1, true);
     read_log(2, true);
     read_logs();
-    let mut table = io::large_buffer();
-    let n = io::read_full(libc::STDIN_FILENO, &mut table);
-    limits::run(&table[..n]);
-    ceiling::run();
 }

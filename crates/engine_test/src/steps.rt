@@ -4,7 +4,6 @@
 ghost use mathlib.Core.Path.{_≡_};
 ghost use lib.ListN.{drop};
 ghost use Rattle.rules.specs.Bytes.{nextPosition};
-use log::reader;
 use rules::answers::ReadEvent;
 use testing::print;
 

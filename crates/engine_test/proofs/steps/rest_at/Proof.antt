@@ -36,17 +36,17 @@ use denote.Triple.Walked.{says, Stays, stay-none, stay-none-slice, walkOf, goes-
 use denote.Exit.{yes}
 use denote.Triple.Clauses.{ensured, lasts}
 use Rattle.position.specs.Position.{PartFrom}
-use Rattle.log.specs.declared.reader.Reader.{Reader}
-use Rattle.log.proofs.reader.Reader as T
-use Rattle.log.proofs.reader.Reader.Laws as T′
-use Rattle.log.proofs.reader.starting_at as starting
-use Rattle.log.proofs.reader.starting_at.Symbol as starting-def
-use Rattle.log.proofs.reader.starting_at.Symbol.{name as #log·reader·starting-at}
-use Rattle.log.proofs.reader.starting_at.Met as starting-thm
-use Rattle.log.proofs.reader.rest as rest
-use Rattle.log.proofs.reader.rest.Symbol as rest-def
-use Rattle.log.proofs.reader.rest.Symbol.{name as #log·reader·rest}
-use Rattle.log.proofs.reader.rest.Met as rest-thm
+use Rattle.reader.specs.declared.Reader.{Reader}
+use Rattle.reader.proofs.Reader as T
+use Rattle.reader.proofs.Reader.Laws as T′
+use Rattle.reader.proofs.starting_at as starting
+use Rattle.reader.proofs.starting_at.Symbol as starting-def
+use Rattle.reader.proofs.starting_at.Symbol.{name as #reader·starting-at}
+use Rattle.reader.proofs.starting_at.Met as starting-thm
+use Rattle.reader.proofs.rest as rest
+use Rattle.reader.proofs.rest.Symbol as rest-def
+use Rattle.reader.proofs.rest.Symbol.{name as #reader·rest}
+use Rattle.reader.proofs.rest.Met as rest-thm
 use Rattle.engine_test.proofs.steps.rest_at.Key.{name as #engine-test·steps·rest-at}
 use Rattle.engine_test.proofs.steps.rest_at as fun
 use Rattle.engine_test.proofs.steps.rest_at.Statement as stated
@@ -112,7 +112,7 @@ module _ {M : Type 1} (𝓤 : URA M) (H : Heap 𝓤) (A : Atoms 𝓤) (W : Given
       suffices ! _ (ends-at 𝓤 H A fun.ended staying (fun.clauses 𝓤 H A mem run) W (((κ, tt), (q, tt), tt, (s, (n, tt)), (v ∷ [], (vint w64 n ∷ [], tt))), tt) u t (tt, (tt, tt)) (tt, (tt, tt))) $ says ! e $
       move ! (1 ∷ []) $ frame ! $ nothing ! $ owned ! usize (Is usize) (uint-makes 𝓤 H A W w64) n _ (refl, ok) $ fjoin ! $ move ! (2 ∷ 0 ∷ []) $ fjoin ! $ frame ! $ done !
 
-  module _ (C : Calls 𝓤 H) (Λ : Loops 𝓤 H) (fm : FmC 𝓤 H (W .laws) C) (known-starting : Triple 𝓤 (C #log·reader·starting-at) (Starting 𝓤 H A mem run)) (known-rest : Triple 𝓤 (C #log·reader·rest) (Rest 𝓤 H A mem run)) where
+  module _ (C : Calls 𝓤 H) (Λ : Loops 𝓤 H) (fm : FmC 𝓤 H (W .laws) C) (known-starting : Triple 𝓤 (C #reader·starting-at) (Starting 𝓤 H A mem run)) (known-rest : Triple 𝓤 (C #reader·rest) (Rest 𝓤 H A mem run)) where
     walk : Is (ShrSlice (named 0) κ u8) s (v ∷ []) → ent 𝓤 (onEntry 𝓤 H A fun.signature (κ, tt) (q, tt) (s, (n, tt)) (v ∷ [], (vint w64 n ∷ [], tt))) (WpFn 𝓤 H C Λ code.function (v ∷ vint w64 n ∷ []) Post)
     walk p =
         qed W (raw (onEntry 𝓤 H A fun.signature (κ, tt) (q, tt) (s, (n, tt)) (v ∷ [], (vint w64 n ∷ [], tt))) ∷ []) ∵ enter ! C Λ code.function (v ∷ vint w64 n ∷ []) _ $
@@ -133,13 +133,13 @@ module _ {M : Type 1} (𝓤 : URA M) (H : Heap 𝓤) (A : Atoms 𝓤) (W : Given
         by ! (leaves t u′ (e′ .0 ∙ (ap (λ (x : RefT (List ℕ)). drop (r .position) (now x)) (e .0) ∙ ap (λ (k : ℕ). drop k (now s)) (e .1))))))))))))))))
 
 module _ {M : Type 1} (𝓤 : URA M) (H : Heap 𝓤) (A : Atoms 𝓤) (W : Given 𝓤 H A) (mem : Memory → SProp 𝓤) (run : Routine → Fun 𝓤) where
-  rest-at-walks : (C : Calls 𝓤 H) (Λ : Loops 𝓤 H) → FmC 𝓤 H (W .laws) C → Triple 𝓤 (C #log·reader·starting-at) (Starting 𝓤 H A mem run) → Triple 𝓤 (C #log·reader·rest) (Rest 𝓤 H A mem run)
+  rest-at-walks : (C : Calls 𝓤 H) (Λ : Loops 𝓤 H) → FmC 𝓤 H (W .laws) C → Triple 𝓤 (C #reader·starting-at) (Starting 𝓤 H A mem run) → Triple 𝓤 (C #reader·rest) (Rest 𝓤 H A mem run)
       → Walks 𝓤 H A fun.ended staying (WpFn 𝓤 H C Λ code.function) (fun.clauses 𝓤 H A mem run)
   rest-at-walks C Λ fm known-starting known-rest = walked 𝓤 H A fun.ended staying (fun.clauses 𝓤 H A mem run) (WpFn 𝓤 H C Λ code.function) (λ κs. (slice-vals, (uint-vals w64, tt))) (λ κs. (shr-slice-tells (named 0) (κs .0) u8, (uint-tells w64, tt)))
       (λ κs qs bounds a g are. via 𝓤 _ (fst∗ 𝓤 _ (emp 𝓤)) (walk 𝓤 H A W mem run (κs .0) (qs .0) (a .0) (a .1 .0) (are .1 .0 .1) C Λ fm known-starting known-rest (are .0)))
 
 rest-at-meets : {M : Type 1} (𝓤 : URA M) (H : Heap 𝓤) (A : Atoms 𝓤) (W : Given 𝓤 H A) (mem : Memory → SProp 𝓤) (run : Routine → Fun 𝓤) (𝓣 : Tables 𝓤 H)
-    → Triple 𝓤 (𝓣 .C #log·reader·starting-at) (Starting 𝓤 H A mem run) → Triple 𝓤 (𝓣 .C #log·reader·rest) (Rest 𝓤 H A mem run)
+    → Triple 𝓤 (𝓣 .C #reader·starting-at) (Starting 𝓤 H A mem run) → Triple 𝓤 (𝓣 .C #reader·rest) (Rest 𝓤 H A mem run)
     → Meets 𝓤 H A fun.signature (WpFn 𝓤 H (𝓣 .C) (𝓣 .Λ) code.function) (fun.spec 𝓤 H A mem run)
 rest-at-meets 𝓤 H A W mem run 𝓣 known-starting known-rest = walk-meets 𝓤 H A fun.ended staying W (goes-none-slice 𝓤 H A W 1 (0 ∷ []) tt (plain (λ _. u8)) yes, (goes-none 𝓤 H A W 1 (λ _. usize) yes (λ κs x f. refl), tt)) (fun.clauses 𝓤 H A mem run) (WpFn 𝓤 H (𝓣 .C) (𝓣 .Λ) code.function) (WpFn-mono 𝓤 H (W .laws) 𝓣 code.function)
     (rest-at-walks 𝓤 H A W mem run (𝓣 .C) (𝓣 .Λ) (fmOf 𝓤 H (W .laws) 𝓣) known-starting known-rest)
@@ -150,5 +150,5 @@ rest-at-spec 𝓤 H 𝓜 𝓖 𝓡 =
     entered 𝓤 H (tripleOf 𝓤 H (𝓖 .A) fun.signature (fun.spec 𝓤 H (𝓖 .A) (𝓜 .mem) (𝓡 .run)))
     (tables 𝓤 H 𝓜 𝓡 code.env .C) (tables 𝓤 H 𝓜 𝓡 code.env .Λ) #engine-test·steps·rest-at code.function (code.unfolded 𝓤 H 𝓜 𝓡)
     (rest-at-meets 𝓤 H (𝓖 .A) (givenOf 𝓤 H 𝓜 𝓖) (𝓜 .mem) (𝓡 .run) (tablesOf 𝓤 H 𝓜 (tables 𝓤 H 𝓜 𝓡 code.env))
-    (cited 𝓤 H (Starting 𝓤 H (𝓖 .A) (𝓜 .mem) (𝓡 .run)) 𝓜 𝓡 code.env #log·reader·starting-at starting-def.routine code.calls-log·reader·starting-at (starting-thm.met 𝓤 H 𝓜 𝓖 𝓡))
-    (cited 𝓤 H (Rest 𝓤 H (𝓖 .A) (𝓜 .mem) (𝓡 .run)) 𝓜 𝓡 code.env #log·reader·rest rest-def.routine code.calls-log·reader·rest (rest-thm.met 𝓤 H 𝓜 𝓖 𝓡)))
+    (cited 𝓤 H (Starting 𝓤 H (𝓖 .A) (𝓜 .mem) (𝓡 .run)) 𝓜 𝓡 code.env #reader·starting-at starting-def.routine code.calls-reader·starting-at (starting-thm.met 𝓤 H 𝓜 𝓖 𝓡))
+    (cited 𝓤 H (Rest 𝓤 H (𝓖 .A) (𝓜 .mem) (𝓡 .run)) 𝓜 𝓡 code.env #reader·rest rest-def.routine code.calls-reader·rest (rest-thm.met 𝓤 H 𝓜 𝓖 𝓡)))

@@ -53,20 +53,20 @@ use denote.Triple.Table.{entered, cited}
 use denote.Triple.Walked.{says, Stays, stay-none, stay-none-slice, walkOf, goes-none, goes-none-slice, Walks, ends-at, walked, walk-meets}
 use denote.Exit.{yes}
 use denote.Triple.Clauses.{ensured, lasts}
-use Rattle.log.specs.declared.reader.Read.{Read}
-use Rattle.log.proofs.reader.Read as N
-use Rattle.log.proofs.reader.Read.Laws as N′
-use Rattle.log.specs.declared.reader.Reader.{Reader}
-use Rattle.log.proofs.reader.Reader as T
-use Rattle.log.proofs.reader.Reader.Laws as T′
-use Rattle.log.proofs.reader.starting_at as starting
-use Rattle.log.proofs.reader.starting_at.Symbol as starting-def
-use Rattle.log.proofs.reader.starting_at.Symbol.{name as #log·reader·starting-at}
-use Rattle.log.proofs.reader.starting_at.Met as starting-thm
-use Rattle.log.proofs.reader.next as next
-use Rattle.log.proofs.reader.next.Symbol as next-def
-use Rattle.log.proofs.reader.next.Symbol.{name as #log·reader·next}
-use Rattle.log.proofs.reader.next.Met as next-thm
+use Rattle.reader.specs.declared.Read.{Read}
+use Rattle.reader.proofs.Read as N
+use Rattle.reader.proofs.Read.Laws as N′
+use Rattle.reader.specs.declared.Reader.{Reader}
+use Rattle.reader.proofs.Reader as T
+use Rattle.reader.proofs.Reader.Laws as T′
+use Rattle.reader.proofs.starting_at as starting
+use Rattle.reader.proofs.starting_at.Symbol as starting-def
+use Rattle.reader.proofs.starting_at.Symbol.{name as #reader·starting-at}
+use Rattle.reader.proofs.starting_at.Met as starting-thm
+use Rattle.reader.proofs.next as next
+use Rattle.reader.proofs.next.Symbol as next-def
+use Rattle.reader.proofs.next.Symbol.{name as #reader·next}
+use Rattle.reader.proofs.next.Met as next-thm
 use Rattle.engine_test.proofs.steps.print_read as print
 use Rattle.engine_test.proofs.steps.print_read.Symbol as print-def
 use Rattle.engine_test.proofs.steps.print_read.Symbol.{name as #engine-test·steps·print-read}
@@ -198,7 +198,7 @@ module _ {M : Type 1} (𝓤 : URA M) (H : Heap 𝓤) (A : Atoms 𝓤) (W : Given
       frame ! $ owned ! usize (Is usize) (uint-makes 𝓤 H A W w64) m _ (refl, fits) $
       nothing ! $ owned ! usize (Is usize) (uint-makes 𝓤 H A W w64) n _ (refl, ok) $ fjoin ! $ move ! (2 ∷ 0 ∷ []) $ fjoin ! $ frame ! $ done !
 
-  module _ (C : Calls 𝓤 H) (Λ : Loops 𝓤 H) (fm : FmC 𝓤 H (W .laws) C) (known-starting : Triple 𝓤 (C #log·reader·starting-at) (Starting 𝓤 H A mem run)) (known-next : Triple 𝓤 (C #log·reader·next) (Next 𝓤 H A mem run)) (known-print : Triple 𝓤 (C #engine-test·steps·print-read) (Print 𝓤 H A mem run)) where
+  module _ (C : Calls 𝓤 H) (Λ : Loops 𝓤 H) (fm : FmC 𝓤 H (W .laws) C) (known-starting : Triple 𝓤 (C #reader·starting-at) (Starting 𝓤 H A mem run)) (known-next : Triple 𝓤 (C #reader·next) (Next 𝓤 H A mem run)) (known-print : Triple 𝓤 (C #engine-test·steps·print-read) (Print 𝓤 H A mem run)) where
     walk : Is (ShrSlice (named 0) κ u8) s (v ∷ []) → ent 𝓤 (onEntry 𝓤 H A fun.signature (κ, tt) (q, tt) (s, (n, tt)) (v ∷ [], (vint w64 n ∷ [], tt))) (WpFn 𝓤 H C Λ code.function (v ∷ vint w64 n ∷ []) Post)
     walk p =
         qed W (raw (onEntry 𝓤 H A fun.signature (κ, tt) (q, tt) (s, (n, tt)) (v ∷ [], (vint w64 n ∷ [], tt))) ∷ []) ∵ enter ! C Λ code.function (v ∷ vint w64 n ∷ []) _ $
@@ -249,13 +249,13 @@ module _ {M : Type 1} (𝓤 : URA M) (H : Heap 𝓤) (A : Atoms 𝓤) (W : Given
         keep ! (1 ∷ 2 ∷ []) $ by ! (leaves (zs .0 .position) (LL.owed (T.the-type α) (T′.the-laws α) (zs .0) _ isz .1 .0 .1) (f .2)))))))))))))))))))))))))))))
 
 module _ {M : Type 1} (𝓤 : URA M) (H : Heap 𝓤) (A : Atoms 𝓤) (W : Given 𝓤 H A) (mem : Memory → SProp 𝓤) (run : Routine → Fun 𝓤) where
-  step-walks : (C : Calls 𝓤 H) (Λ : Loops 𝓤 H) → FmC 𝓤 H (W .laws) C → Triple 𝓤 (C #log·reader·starting-at) (Starting 𝓤 H A mem run) → Triple 𝓤 (C #log·reader·next) (Next 𝓤 H A mem run) → Triple 𝓤 (C #engine-test·steps·print-read) (Print 𝓤 H A mem run)
+  step-walks : (C : Calls 𝓤 H) (Λ : Loops 𝓤 H) → FmC 𝓤 H (W .laws) C → Triple 𝓤 (C #reader·starting-at) (Starting 𝓤 H A mem run) → Triple 𝓤 (C #reader·next) (Next 𝓤 H A mem run) → Triple 𝓤 (C #engine-test·steps·print-read) (Print 𝓤 H A mem run)
       → Walks 𝓤 H A fun.ended staying (WpFn 𝓤 H C Λ code.function) (fun.clauses 𝓤 H A mem run)
   step-walks C Λ fm known-starting known-next known-print = walked 𝓤 H A fun.ended staying (fun.clauses 𝓤 H A mem run) (WpFn 𝓤 H C Λ code.function) (λ κs. (slice-vals, (uint-vals w64, tt))) (λ κs. (shr-slice-tells (named 0) (κs .0) u8, (uint-tells w64, tt)))
       (λ κs qs bounds a g are. via 𝓤 _ (fst∗ 𝓤 _ (emp 𝓤)) (walk 𝓤 H A W mem run (κs .0) (qs .0) (a .0) (a .1 .0) (are .1 .0 .1) C Λ fm known-starting known-next known-print (are .0)))
 
 step-meets : {M : Type 1} (𝓤 : URA M) (H : Heap 𝓤) (A : Atoms 𝓤) (W : Given 𝓤 H A) (mem : Memory → SProp 𝓤) (run : Routine → Fun 𝓤) (𝓣 : Tables 𝓤 H)
-    → Triple 𝓤 (𝓣 .C #log·reader·starting-at) (Starting 𝓤 H A mem run) → Triple 𝓤 (𝓣 .C #log·reader·next) (Next 𝓤 H A mem run) → Triple 𝓤 (𝓣 .C #engine-test·steps·print-read) (Print 𝓤 H A mem run)
+    → Triple 𝓤 (𝓣 .C #reader·starting-at) (Starting 𝓤 H A mem run) → Triple 𝓤 (𝓣 .C #reader·next) (Next 𝓤 H A mem run) → Triple 𝓤 (𝓣 .C #engine-test·steps·print-read) (Print 𝓤 H A mem run)
     → Meets 𝓤 H A fun.signature (WpFn 𝓤 H (𝓣 .C) (𝓣 .Λ) code.function) (fun.spec 𝓤 H A mem run)
 step-meets 𝓤 H A W mem run 𝓣 known-starting known-next known-print = walk-meets 𝓤 H A fun.ended staying W (goes-none-slice 𝓤 H A W 1 (0 ∷ []) tt (plain (λ _. u8)) yes, (goes-none 𝓤 H A W 1 (λ _. usize) yes (λ κs x f. refl), tt)) (fun.clauses 𝓤 H A mem run) (WpFn 𝓤 H (𝓣 .C) (𝓣 .Λ) code.function) (WpFn-mono 𝓤 H (W .laws) 𝓣 code.function)
     (step-walks 𝓤 H A W mem run (𝓣 .C) (𝓣 .Λ) (fmOf 𝓤 H (W .laws) 𝓣) known-starting known-next known-print)
@@ -266,6 +266,6 @@ step-spec 𝓤 H 𝓜 𝓖 𝓡 =
     entered 𝓤 H (tripleOf 𝓤 H (𝓖 .A) fun.signature (fun.spec 𝓤 H (𝓖 .A) (𝓜 .mem) (𝓡 .run)))
     (tables 𝓤 H 𝓜 𝓡 code.env .C) (tables 𝓤 H 𝓜 𝓡 code.env .Λ) #engine-test·steps·step code.function (code.unfolded 𝓤 H 𝓜 𝓡)
     (step-meets 𝓤 H (𝓖 .A) (givenOf 𝓤 H 𝓜 𝓖) (𝓜 .mem) (𝓡 .run) (tablesOf 𝓤 H 𝓜 (tables 𝓤 H 𝓜 𝓡 code.env))
-    (cited 𝓤 H (Starting 𝓤 H (𝓖 .A) (𝓜 .mem) (𝓡 .run)) 𝓜 𝓡 code.env #log·reader·starting-at starting-def.routine code.calls-log·reader·starting-at (starting-thm.met 𝓤 H 𝓜 𝓖 𝓡))
-    (cited 𝓤 H (Next 𝓤 H (𝓖 .A) (𝓜 .mem) (𝓡 .run)) 𝓜 𝓡 code.env #log·reader·next next-def.routine code.calls-log·reader·next (next-thm.met 𝓤 H 𝓜 𝓖 𝓡))
+    (cited 𝓤 H (Starting 𝓤 H (𝓖 .A) (𝓜 .mem) (𝓡 .run)) 𝓜 𝓡 code.env #reader·starting-at starting-def.routine code.calls-reader·starting-at (starting-thm.met 𝓤 H 𝓜 𝓖 𝓡))
+    (cited 𝓤 H (Next 𝓤 H (𝓖 .A) (𝓜 .mem) (𝓡 .run)) 𝓜 𝓡 code.env #reader·next next-def.routine code.calls-reader·next (next-thm.met 𝓤 H 𝓜 𝓖 𝓡))
     (cited 𝓤 H (Print 𝓤 H (𝓖 .A) (𝓜 .mem) (𝓡 .run)) 𝓜 𝓡 code.env #engine-test·steps·print-read print-def.routine code.calls-engine-test·steps·print-read (print-thm.met 𝓤 H 𝓜 𝓖 𝓡)))

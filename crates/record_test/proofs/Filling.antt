@@ -6,7 +6,7 @@ use Prim.Native.Nat.{ℕ, _+_}
 use native.Mathlib.Numerals.{add-one}
 use lib.Dec.{eqb}
 use lib.ListN.{getD}
-use Rattle.engine_test.specs.Verdicts.{filledTo}
+use Rattle.record_test.specs.Verdicts.{filledTo}
 
 pub filled-more : (bytes : List ℕ) (i : ℕ) (b : Bool) → b ≡ filledTo i bytes → (b && eqb (getD bytes i 0) 0xee) ≡ filledTo (i + 1) bytes
 filled-more bytes i b e = rw (add-one i, e) refl

@@ -2,7 +2,6 @@
 // goes on.
 use crate::edit;
 use crate::limits;
-use crate::view;
 use rules::calls::Command;
 use rules::calls::Event;
 use rules::calls::Request;
@@ -16,7 +15,7 @@ pub fn run() {
     print::text(b"ceiling\n");
     let a = limits::call(b"open ", r, Event::ContactorCommand(t, Command::Open));
     print::text(b"\n");
-    view::record(a);
+    record_text::print(a, engine::contactor(a));
     limits::call(
         b"automated ",
         a,
@@ -35,5 +34,5 @@ pub fn run() {
     );
     let c = limits::call(b", power loss ", b, Event::PowerLoss(t));
     print::text(b"\n");
-    view::record(c);
+    record_text::print(c, engine::contactor(c));
 }

@@ -50,7 +50,7 @@ fn watch(l: Live) {
     print::line(b"test ", views::test(l) as u64);
     hex_line(b"failed ", w.mask as u64, 4);
     print::line(b"failed_count ", w.failed as u64);
-    hex_line(b"tripped ", views::tripped(l) as u64, 2);
+    hex_line(b"tripped ", tripped::mask(l) as u64, 2);
 }
 
 fn closed(c: Contactor) -> u64
@@ -87,12 +87,13 @@ fn counts(s: Stores) {
     print::line(b"short_count ", views::short_count(s) as u64);
 }
 
-pub fn record(r: Record) {
+// With the contactor that goes with it.
+pub fn print(r: Record, contactor: Contactor) {
     let l = r.live;
     print::line(b"type ", l.battery as u64);
     control(l);
     watch(l);
-    print::line(b"contactor ", closed(engine::contactor(r)));
+    print::line(b"contactor ", closed(contactor));
     accounts(l);
     long(r);
     short(r);

@@ -4,8 +4,8 @@ use native.Mathlib.Omega.{arith}
 use lib.ListN.{length}
 use Rattle.testing.proofs.Walking.{case-inside}
 use borrow.Author.Needs.{needs}
-use Rattle.engine_test.proofs.limits.cases.Statement.{statement}
-use Rattle.engine_test.proofs.limits.cases.Tie as tie
+use Rattle.record_test.proofs.limits.cases.Statement.{statement}
+use Rattle.record_test.proofs.limits.cases.Tie as tie
 
 abbrev Inv-loop : tie.InvT-loop
 Inv-loop table at₀ at = Unit {0}

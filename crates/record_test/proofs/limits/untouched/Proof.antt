@@ -1,13 +1,13 @@
 use mathlib.Core.Path.{_≡_, refl}
 use Prim.Native.Nat.{_≤_}
 use native.Mathlib.Omega.{arith}
-use Rattle.engine_test.specs.Verdicts.{filledTo}
-use Rattle.engine_test.proofs.Filling.{filled-more}
+use Rattle.record_test.specs.Verdicts.{filledTo}
+use Rattle.record_test.proofs.Filling.{filled-more}
 use Prim.Native.Nat.{_-_}
 use lib.ListN.{length}
 use borrow.Author.Needs.{needs}
-use Rattle.engine_test.proofs.limits.untouched.Statement.{statement}
-use Rattle.engine_test.proofs.limits.untouched.Tie as tie
+use Rattle.record_test.proofs.limits.untouched.Statement.{statement}
+use Rattle.record_test.proofs.limits.untouched.Tie as tie
 
 abbrev Inv-loop : tie.InvT-loop
 Inv-loop s same₀ i₀ same i = (i ≤ length s) × (same ≡ filledTo i s)

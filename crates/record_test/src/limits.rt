@@ -4,7 +4,7 @@
 // after the bytes written.
 ghost use mathlib.Core.Path.{_≡_};
 ghost use lib.ListN.{length};
-ghost use Rattle.engine_test.specs.Verdicts.{filledTo};
+ghost use Rattle.record_test.specs.Verdicts.{filledTo};
 use crate::compare;
 use crate::edit;
 use rules::answers::Written;
@@ -18,7 +18,6 @@ use testing::print;
 use testing::slice;
 use testing::table;
 use testing::table::Next;
-use words::read;
 
 // Of the byte that every buffer is filled with.
 fn untouched(s: &[u8]) -> bool
@@ -102,16 +101,16 @@ fn judge(r: Record) {
 // case's name, and a number of four bytes.
 fn changed(head: &[u8]) -> Record {
     let place = slice::byte(head, 1);
-    let small = read::byte_at(head, 2);
-    let n = read::u32_at(head, 4);
-    match read::byte_at(head, 0) {
+    let small = word_reader::byte_at(head, 2);
+    let n = word_reader::u32_at(head, 4);
+    match word_reader::byte_at(head, 0) {
         0 => edit::battery(small),
         1 => edit::last(n),
         2 => edit::accounts(n as u64, 0),
         3 => edit::accounts(0, n as u64),
         4 => edit::mask((n % 65_536) as u16),
         5 => edit::previous(n, 0),
-        6 => edit::previous(1_000, read::i32_at(head, 4)),
+        6 => edit::previous(1_000, word_reader::i32_at(head, 4)),
         7 => edit::span(place, Span::Beyond(Milliseconds(n))),
         8 => edit::span(place, Span::Within(Milliseconds(n))),
         9 => edit::long(n as usize, place, small),

@@ -108,10 +108,10 @@ cond-le true false f = zero-le
 cond-le false b f = zero-le
 
 module _ (start begin : ℕ) where
-  joins-milder : {before past : List Measured} → Forall₂ (Milder start begin) before past → (m n : Measured) → Milder start begin m n
+  increment-milder : {before past : List Measured} → Forall₂ (Milder start begin) before past → (m n : Measured) → Milder start begin m n
       → increment positiveTimes past n .0 ≤ increment positiveTimes before m .0
-  joins-milder Forall₂·nil m n x = zero-le
-  joins-milder (Forall₂·cons {a = e} {b = f} y ys) m n x =
+  increment-milder Forall₂·nil m n x = zero-le
+  increment-milder (Forall₂·cons {a = e} {b = f} y ys) m n x =
       let same : time n - time f ≡ time m - time e = omega (arith, x .times, y .times) in
       rw (← (x .readings .alike), ← (y .readings .alike), same)
       (cond-le (plausible (e .reading)) (plausible (m .reading))
@@ -120,4 +120,4 @@ module _ (start begin : ℕ) where
   pub total-milder : {before past ms ns : List Measured} → Forall₂ (Milder start begin) before past → Forall₂ (Milder start begin) ms ns
       → total past ns ≤ total before ms
   total-milder b Forall₂·nil = zero-le
-  total-milder b (Forall₂·cons {a = m} {b = n} x xs) = add-le-add (joins-milder b m n x) (total-milder (Forall₂·cons x b) xs)
+  total-milder b (Forall₂·cons {a = m} {b = n} x xs) = add-le-add (increment-milder b m n x) (total-milder (Forall₂·cons x b) xs)

@@ -151,6 +151,6 @@ fn other_calls_do_not_break_a_span() {
         .clear(300)
         .battle_override(400, 1)
         .power_on(450);
-    log.measurement(500, &high(3_651));
+    log.request(475, 1).measurement(500, &high(3_651));
     assert!(tripped(&log, 0));
 }

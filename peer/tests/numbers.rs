@@ -64,17 +64,6 @@ fn a_stop_comes_after_the_lines_before_it() {
     assert_eq!(text(&log), lines);
 }
 
-/// The last event's refusal, which must have changed nothing.
-fn refused(log: &mut Log, add: impl Fn(&mut Log)) -> u8 {
-    let before = view(log);
-    add(log);
-    let number = *refusals(log).last().expect("an event");
-    if number != 0 {
-        assert_eq!(before, view(log), "a refused call changes nothing");
-    }
-    number
-}
-
 /// Kind and last byte of every call but the measurement.
 const CALLS: [(u8, &[u8]); 11] = [
     (2, &[]),
@@ -154,7 +143,7 @@ fn rows_8_to_10_operational() {
 
 #[test]
 fn rows_8_to_10_maintenance() {
-    let expected = [0, 0, 8, 0, 0, 0, 0, 9, 0, 0, 0, 0, 0];
+    let expected = [0, 0, 8, 0, 0, 0, 0, 0, 0, 0, 0, 0, 0];
     assert_eq!(every_call(&at_state(3), 0), expected);
 }
 

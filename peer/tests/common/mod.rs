@@ -34,6 +34,17 @@ pub fn refusals(log: &Log) -> Vec<u8> {
         .collect()
 }
 
+/// The last event's refusal, which must have changed nothing.
+pub fn refused(log: &mut Log, add: impl Fn(&mut Log)) -> u8 {
+    let before = view(log);
+    add(log);
+    let number = *refusals(log).last().expect("an event");
+    if number != 0 {
+        assert_eq!(before, view(log), "a refused call changes nothing");
+    }
+    number
+}
+
 /// Powered on at 0, then these frames at these times.
 pub fn frames(battery: u8, list: &[(u32, Frame)]) -> Log {
     let mut log = Log::new(battery);

@@ -3,6 +3,8 @@
 mod common;
 
 use common::both;
+use peer::model::Tally;
+use peer::view::View;
 use peer::wire::Log;
 use peer::{fast, generate, model};
 
@@ -17,6 +19,31 @@ fn random_logs_agree() {
 fn a_seed_makes_one_log() {
     assert_eq!(generate::log(5, 50), generate::log(5, 50));
     assert_ne!(generate::log(5, 50), generate::log(6, 50));
+}
+
+/// The records that the log of a seed parks: Maintenance, Dormant just after.
+fn parked(seed: u64) -> Vec<View> {
+    let views = fast::views(&generate::log(seed, 120));
+    let straight = |pair: &&[View]| (pair[0].state, pair[1].state) == (3, 1);
+    let pairs = views.windows(2).filter(straight);
+    pairs.map(|pair| pair[0].clone()).collect()
+}
+
+#[test]
+fn random_logs_park_from_maintenance() {
+    let records: Vec<View> = (0..200).flat_map(parked).collect();
+    let count = |test: fn(&View) -> bool| records.iter().filter(|view| test(view)).count();
+    let mut tally = Tally::default();
+    for seed in 0..200 {
+        tally.add(&model::tally(&generate::log(seed, 120)));
+    }
+    assert_eq!(tally.parkings[0], records.len() as u64);
+    assert!(count(|view| view.command == 2) > 100);
+    assert!(count(|view| view.override_on) > 100);
+    assert!(count(|view| view.tripped != 0) > 100);
+    assert!(count(|view| view.contactor) > 50);
+    assert!(tally.parkings[6] > 20 && tally.parkings[7] > 20);
+    assert!(tally.refusals[9] > 100, "Dormant to Maintenance");
 }
 
 /// 20,001 lines: several times the output buffer.

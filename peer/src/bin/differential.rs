@@ -129,6 +129,9 @@ fn print_tally(tally: &Tally) {
     for number in 6..=10 {
         println!("refused {number}: {}", tally.refusals[number]);
     }
+    let untimely = tally.parkings[6] + tally.parkings[7];
+    println!("parked from Maintenance {}", tally.parkings[0]);
+    println!("parkings refused as untimely {untimely}");
     println!("logs that end: {}", tally.stops[0]);
     for number in 1..=4 {
         println!("stop {number}: {}", tally.stops[number]);

@@ -61,7 +61,7 @@ impl Plan {
         }
         let accepted = match kind {
             4 => self.state == 3 || (self.state == 2 && last < 2),
-            5 => self.state.abs_diff(last) <= 1,
+            5 => (self.state, last) != (1, 3),
             6 => self.state >= 2,
             7 => self.state == 3,
             _ => true,

@@ -5,17 +5,18 @@ use super::plan::{Plan, MISSION};
 use crate::wire::Frame;
 
 /// A profile names how often each script comes: spans, loose frames, noise,
-/// storms, power cycles, clears.
-pub type Profile = [u64; 6];
+/// storms, power cycles, clears, parkings.
+pub type Profile = [u64; 7];
 
-pub const PROFILES: [Profile; 7] = [
-    [10, 4, 4, 0, 1, 1],
-    [1, 30, 3, 0, 1, 1],
-    [1, 1, 1, 12, 0, 0],
-    [2, 4, 30, 0, 3, 2],
-    [6, 6, 6, 3, 2, 2],
-    [20, 0, 0, 0, 0, 0],
-    [2, 2, 1, 10, 1, 3],
+pub const PROFILES: [Profile; 8] = [
+    [10, 4, 4, 0, 1, 1, 2],
+    [1, 30, 3, 0, 1, 1, 2],
+    [1, 1, 1, 12, 0, 0, 1],
+    [2, 4, 30, 0, 3, 2, 3],
+    [6, 6, 6, 3, 2, 2, 3],
+    [20, 0, 0, 0, 0, 0, 0],
+    [2, 2, 1, 10, 1, 3, 1],
+    [2, 3, 4, 0, 1, 1, 12],
 ];
 
 pub fn fill(plan: &mut Plan, profile: &Profile) {
@@ -31,7 +32,8 @@ pub fn fill(plan: &mut Plan, profile: &Profile) {
             2 => plan.noise(),
             3 => storm(plan),
             4 => power_cycle(plan),
-            _ => clear(plan),
+            5 => clear(plan),
+            _ => park(plan),
         }
     }
 }
@@ -126,6 +128,7 @@ fn middle(plan: &mut Plan, time: u32, background: Frame, protection: u8, zone: Z
             plan.power_on(time);
         }
         3 | 4 => plan.noise(),
+        5 => plan.request(time, 1),
         _ => frame_in(plan, time, background, protection, zone),
     }
 }
@@ -214,10 +217,38 @@ fn power_cycle(plan: &mut Plan) {
 fn clear(plan: &mut Plan) {
     let now = plan.now;
     if !plan.rng.one_in(3) {
-        plan.request(now, 2);
-        plan.request(now, 3);
+        maintain(plan);
     }
     plan.clear(now);
+}
+
+/// To Maintenance, from any powered state.
+fn maintain(plan: &mut Plan) {
+    let now = plan.now;
+    plan.request(now, 2);
+    plan.request(now, 3);
+}
+
+/// From Maintenance straight to Dormant: with something tripped or not, often
+/// with Force closed and override in force, at times untimely. Then the way
+/// back, which is not allowed.
+fn park(plan: &mut Plan) {
+    let protection = plan.rng.below(8) as u8;
+    let (hold, _) = TIMES[usize::from(protection)];
+    let zone = zone(&mut plan.rng);
+    row(plan, Frame::NOMINAL, protection, zone, hold);
+    maintain(plan);
+    let now = plan.now;
+    if !plan.rng.one_in(3) {
+        plan.command(now, 2);
+    }
+    if plan.rng.one_in(2) {
+        plan.battle_override(now, 1);
+    }
+    for state in [1, 3] {
+        let time = plan.time();
+        plan.request(time, state);
+    }
 }
 
 /// Where the log's time begins: 0, anywhere, or close to the mission's end.

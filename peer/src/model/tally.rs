@@ -1,6 +1,7 @@
 //! Counts of what occurred in logs.
 
-use super::history::History;
+use super::history::{History, DORMANT, MAINTENANCE};
+use super::reader::{Call, Event};
 use super::stores::Entry;
 use super::Ending;
 
@@ -9,6 +10,8 @@ pub struct Tally {
     pub events: u64,
     /// By number; accepted calls under 0.
     pub refusals: [u64; 11],
+    /// Requests for Dormant in Maintenance, by number likewise.
+    pub parkings: [u64; 11],
     /// Logs by stop number; those that end under 0.
     pub stops: [u64; 5],
     pub trips: [u64; 8],
@@ -30,6 +33,13 @@ impl Tally {
         self.failed_tests += u64::from(history.test() == 2);
         if refusal == 0 {
             self.note_entries(history);
+        }
+    }
+
+    /// Counts a request for Dormant in Maintenance, given the state before it.
+    pub(super) fn note_parking(&mut self, before: u8, event: &Event, refusal: u8) {
+        if before == MAINTENANCE && matches!(event.call, Call::Request(DORMANT)) {
+            self.parkings[usize::from(refusal)] += 1;
         }
     }
 
@@ -67,6 +77,7 @@ impl Tally {
     pub fn add(&mut self, other: &Tally) {
         let sum = |a: &mut [u64], b: &[u64]| a.iter_mut().zip(b).for_each(|(a, b)| *a += b);
         sum(&mut self.refusals, &other.refusals);
+        sum(&mut self.parkings, &other.parkings);
         sum(&mut self.stops, &other.stops);
         sum(&mut self.trips, &other.trips);
         sum(&mut self.releases, &other.releases);

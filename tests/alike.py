@@ -29,9 +29,10 @@ FIRST_SESSION = [
     (64_000, 0, 0), (64_000, 1, 1),
     request(65_000, 1), request(65_000, 2),  # entering Dormant sets override off
     request(66_000, 3), command(66_000, 2), (66_000, 0, 1), measurement(66_500, LOW), (67_000, 1, 0),
-    clear(67_000), request(67_000, 1),  # 9: Maintenance to Dormant
+    clear(67_000),
     measurement(70_000, current=501, temperatures=COLD), measurement(71_000, current=501, temperatures=COLD),  # 3 trips: liftable
     measurement(72_000, 3651), measurement(72_500, 3651),  # 1 is released, then 0 trips: not liftable
+    (73_000, 0, 1), request(73_000, 1), (73_000, 1, 0),  # Maintenance to Dormant sets override off; 10: Dormant
     power_loss(80_000), command(80_000, 0),  # 8
 ]
 SECOND_SESSION = [
@@ -48,7 +49,7 @@ SECOND_SESSION = [
 ]
 FAILURE = [
     measurement(180_000, [3300] * 7 + [499], 2_000_001, [250, 250, 250, 881]),  # sensors 7, 8 and 12
-    request(179_999, 2), command(180_000, 2), request(180_000, 1), (180_000, 0, 1),  # 6; 9
+    request(179_999, 2), command(180_000, 2), request(180_000, 3), (180_000, 0, 1),  # 6; Maintenance to itself
 ]
 PAIRS = {"apart": FIRST_SESSION + SECOND_SESSION, "alike": FIRST_SESSION + SECOND_SESSION + FAILURE}
 

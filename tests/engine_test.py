@@ -1,10 +1,11 @@
 """What crates/engine_test runs on and must print. It runs on the vectors, on logs made here that show one thing each, and on the pairs of
 `alike`. The text is what a reader answers step by step on the first two logs, by the layout in `benchlog`; then what the independent model
-holds after each log made here and the vectors' .view files, each view with the number of entries in both stores after it. Nothing of the
+holds after each log made here and the vectors' views, each view with the number of entries in both stores after it. Nothing of the
 engine's own is read."""
 import alike
 import benchlog
 import model
+import vectors
 from benchlog import clear, command, measurement, override, power_loss, power_on, request
 
 CRATE = "crates/engine_test"
@@ -48,6 +49,7 @@ def failed():
 
 MAINTENANCE = [request(0, 2), request(0, 3)]
 LOW = [1699] + [3300] * 7  # one cell below 1,700: protection 1, and a spread above 500: protection 7
+FORCED = [power_on(0), *MAINTENANCE, command(0, 2), override(0, 1), measurement(0)]  # Force closed, override on: the contactor is closed
 
 # what the reader is shown to read, step by step: a log of each kind to its end, and one to a last byte that isn't in its list
 STEPS = {
@@ -81,12 +83,29 @@ LOGS = {
     "override_entries": [power_on(0), request(0, 2), override(0, 1), measurement(0, LOW), measurement(10_000, LOW)],
     # mistake: keeping the newest 64
     "newest": [power_on(0), *short_circuits(65)],
+    # document 02, S-3: Maintenance straight to Dormant, and as the two requests that it means; at an early time (6), at a late one (7), and
+    # while Unpowered (8)
+    "forced": FORCED,
+    "shortcut": [*FORCED, request(10, 1)],
+    "shortcut_in_two": [*FORCED, request(10, 2), request(10, 1)],
+    "shortcut_early": [*FORCED, measurement(10), request(9, 1)],
+    "shortcut_late": [*FORCED, request(345_600_001, 1)],
+    "shortcut_unpowered": [*FORCED, power_loss(10), request(10, 1)],
     **{name: events for name, _, events in failed()},
 }
 
-# what the model's views are held to besides, by document 01 alone
+# what the model's views are held to besides, by the papers alone
 COUNTS = {"seventy": (64, 16), "seventy_cleared": (0, 16), "twenty": (10, 16), "newest": (64, 16)}
 MASKS = {name: mask for name, mask, _ in failed()}
+SHOWN = {
+    "forced": "state 3, command 2, override 1, last 0, contactor 1",
+    "shortcut": "state 1, command 0, override 0, last 10, contactor 0",
+    "shortcut_in_two": "state 1, command 0, override 0, last 10, contactor 0",
+    "shortcut_early": "state 3, command 2, override 1, last 10, contactor 1",
+    "shortcut_late": "state 3, command 2, override 1, last 0, contactor 1",
+    "shortcut_unpowered": "state 0, command 0, override 0, last 10, contactor 0",
+}
+SAME = {"shortcut_in_two": "shortcut"}  # logs that leave one record
 
 
 def counted(shown):
@@ -96,11 +115,16 @@ def counted(shown):
     return shown + f"long_count {long_count}\nshort_count {short_count}\n"
 
 
-def judge(name, text):
+def judge(name, views):
+    """The counted view of a log made here, with those before it."""
+    lines = views[name].splitlines()
+    wanted = SHOWN[name].split(", ") if name in SHOWN else []
     if name in COUNTS:
-        assert text.endswith("long_count %d\nshort_count %d\n" % COUNTS[name]), name
+        wanted += ["long_count %d" % COUNTS[name][0], "short_count %d" % COUNTS[name][1]]
     if name in MASKS:
-        assert "\nfailed %04x\nfailed_count %d\n" % (MASKS[name], MASKS[name].bit_count()) in text, name
+        wanted += ["failed %04x" % MASKS[name], "failed_count %d" % MASKS[name].bit_count()]
+    assert set(wanted) <= set(lines), name
+    assert views[name] == views[SAME.get(name, name)], name
 
 
 def step_lines(events):
@@ -126,16 +150,16 @@ def made():
         yield name, log, shown
 
 
-def files(vectors):
+def files(folder):
     text = [line for name, events in STEPS.items() for line in (f"{name}.log\n", *step_lines(events))]
-    logs = {}
+    logs, views = {}, {}
     for name, log, shown in made():
-        logs[f"{name}.log"] = log
-        text.append(f"{name}.log\n{counted(shown)}")
-        judge(name, text[-1])
-    for path in sorted(vectors.glob("*.log")):
-        logs[path.name] = path.read_bytes()
-        text.append(f"{path.name}\n{counted(path.with_suffix('.view').read_text())}")
-    yield from ((f"{CRATE}/data/{name}", log) for name, log in logs.items())
-    yield f"{CRATE}/args", "".join(name + "\n" for name in logs).encode()
+        logs[name], views[name] = log, counted(shown)
+        judge(name, views)
+    for name, log, _, shown in vectors.logs(folder):
+        logs[name], views[name] = log, counted(shown)
+        assert model.view(log) == shown, name
+    text += [f"{name}.log\n{shown}" for name, shown in views.items()]
+    yield from ((f"{CRATE}/data/{name}.log", log) for name, log in logs.items())
+    yield f"{CRATE}/args", "".join(f"{name}.log\n" for name in logs).encode()
     yield f"{CRATE}/stdout", "".join(text).encode()

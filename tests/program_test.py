@@ -1,10 +1,12 @@
-"""What crates/program_test runs on and must print. The vectors go in with their .out as they are, and the examples with their tables, as
-copies, since rt follows no links. The other logs are made here, and what they print is said here too or worked out by the independent
-model, never by sixt."""
+"""What crates/program_test runs on and must print. The vectors go in with their tables, and the examples with theirs, as copies, since rt
+follows no links. The other logs are made here, and what they print is said here too or worked out by the independent model, never by
+sixt."""
 import alike
 import benchlog
+import engine_test
 import examples
 import model
+import vectors
 from benchlog import clear, command, measurement, override, power_loss, power_on, request
 from engine_test import sensors
 
@@ -116,12 +118,26 @@ DAMAGED = {
 }
 
 
-def logs(vectors):
+# document 02, S-3: what follows the six lines of Maintenance with Force closed, override on and a closed contactor. The one request opens
+# the contactor at once; of the two that it means, the first leaves it closed, in Operational with Automated
+FORCED = "1 0 1 0 00 0 0\n2 0 2 0 00 0 0\n3 0 3 0 00 0 0\n4 0 3 0 00 0 0\n5 0 3 0 00 1 0\n6 0 3 1 00 1 1\n"
+SHORTCUTS = {
+    "shortcut": "7 0 1 0 00 0 1\n",
+    "shortcut_in_two": "7 0 2 1 00 1 1\n8 0 1 0 00 0 1\n",
+    "shortcut_early": "7 0 3 1 00 1 1\n8 6 3 1 00 1 1\n",
+    "shortcut_late": "7 7 3 1 00 1 1\n",
+    "shortcut_unpowered": "7 0 0 0 00 0 0\n8 8 0 0 00 0 0\n",
+}
+
+
+def logs(folder):
     """Each log's name, its bytes and its text. The model is asked about every one, those whose text is said elsewhere too."""
-    for path in sorted(vectors.glob("*.log")):
-        yield path.stem, path.read_bytes(), path.with_suffix(".out").read_text()
+    for name, log, text, _ in vectors.logs(folder):
+        yield name, log, text
     for name, (log, text) in DAMAGED.items():
         yield name, log, text
+    for name, lines in SHORTCUTS.items():
+        yield name, benchlog.log(1, *engine_test.LOGS[name]), FORCED + lines + "end 0 0 0\n"
     for name, log in ("long", long_log()), ("limits-1", limits(1)), ("limits-3", limits(3)), ("border", border_log()):
         yield name, log, model.text(log)
     for name, log, text, _ in alike.checked():
@@ -129,9 +145,9 @@ def logs(vectors):
     yield from examples.logs()
 
 
-def files(vectors):
+def files(folder):
     names, expected = "", ""
-    for name, log, text in logs(vectors):
+    for name, log, text in logs(folder):
         assert model.text(log) == text, name
         yield f"{CRATE}/data/{name}.log", log
         names += f"{name}.log\n"

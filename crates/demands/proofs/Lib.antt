@@ -4,3 +4,4 @@ pub mod First
 pub mod Exports
 pub mod Second
 pub mod Third
+pub mod StateMap

@@ -8,10 +8,12 @@ use Rattle.rules.specs.declared.battery.Record.{Record}
 use Rattle.rules.specs.declared.answers.Fresh.{Fresh}
 use Rattle.rules.specs.declared.answers.Outcome.{Outcome}
 use Rattle.rules.specs.Claims.{AfterEveryList, AnyTwoLists, Starter, OfEveryType, OnEveryRecord}
+use Rattle.rules.specs.StateMap.{ByWiderMap}
 use Rattle.step.specs.Fresh.{fresh}
 use Rattle.step.specs.Close.{contactorOf}
 use Rattle.step.specs.Call.{call, run, answers}
-use Rattle.step.proofs.Claims.{StepRuns, of-every-type, after-every-list, any-two-lists, on-every-record}
+use Rattle.step.proofs.Claims.{StepRuns, StepCalls, of-every-type, after-every-list, any-two-lists, on-every-record}
+use Rattle.step.proofs.StateMap.{by-wider-map}
 use Rattle.engine.proofs.apply.Reads as apply-reads
 use Rattle.engine.proofs.contactor.Reads as contactor-reads
 use Rattle.engine.proofs.fresh.Reads as fresh-reads
@@ -85,12 +87,25 @@ pub record CodeCall (before : Record) (e : Event) (given : ℕ) (after : Record)
   pub refusal : given ≡ outcome .refusal
   pub left : after ≡ outcome .after
 
+step-call : (before : Record) (e : Event) (given : ℕ) (after : Record) → CodeCall before e given after → StepCalls before e given after
+step-call before e given after c = (c .refusal ∙ ap (λ (o : Outcome). o .refusal) (c .gives), c .left ∙ ap (λ (o : Outcome). o .after) (c .gives))
+
 pub code-on-every-record : OnEveryRecord CodeCall
-code-on-every-record before e given after c =
-    on-every-record before e given after (
-      c .refusal ∙ ap (λ (o : Outcome). o .refusal) (c .gives),
-      c .left ∙ ap (λ (o : Outcome). o .after) (c .gives),
-    )
+code-on-every-record before e given after c = on-every-record before e given after (step-call before e given after c)
+
+-- ---- document 02, S-3
+
+pub code-by-wider-map : ByWiderMap CodeCall Has
+code-by-wider-map = record {
+  shortcutAccepted = λ before e given after c. by-wider-map .shortcutAccepted before e given after (step-call before e given after c);
+  twoSteps = λ before m t given after c given₁ between c₁ given₂ after₂ c₂.
+      by-wider-map .twoSteps before m t given after (step-call before _ given after c)
+      given₁ between (step-call before _ given₁ between c₁) given₂ after₂ (step-call between _ given₂ after₂ c₂);
+  asBefore = λ before t q given after c. by-wider-map .asBefore before t q given after (step-call before _ given after c);
+  stillNine = λ before e given after c. by-wider-map .stillNine before e given after (step-call before e given after c);
+  shortcutOpens = λ before e given after contactor c. by-wider-map .shortcutOpens before e given after contactor (step-call before e given after c);
+  answersWidened = λ before e given after c. by-wider-map .answersWidened before e given after (step-call before e given after c);
+}
 
 -- ---- and there is one, for every type and list
 

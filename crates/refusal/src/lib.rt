@@ -104,10 +104,10 @@ fn at_request(q: Request, s: State) -> u8
 {
     match q {
         Request::Dormant => match s {
-            State::Unpowered => WRONG_POWER,
+            State::Unpowered => WRONG_POWER, // not allowed either, but 8 comes before 9
             State::Dormant => 0,
             State::Operational => 0,
-            State::Maintenance => REQUEST_NOT_ALLOWED,
+            State::Maintenance => 0, // document 02, S-3
         },
         Request::Operational => match s {
             State::Unpowered => WRONG_POWER,

@@ -17,3 +17,4 @@ pub mod ByteLaws
 pub mod LogLaws
 pub mod Listed
 pub mod Parts
+pub mod StateMap

@@ -1,9 +1,9 @@
 -- What the claims rule out. Of every engine that meets them, on lists and records so small that what is claimed computes: what it shows
--- after each row of specs/Worthless, what it gives for a type number, what a pair of lists alike but for override leaves, and what a call
--- does to an unsound record.
-use mathlib.Core.Path.{_≡_, refl, sym, subst, _∙_}
+-- after each row of specs/Worthless, what it gives for a type number, what a pair of lists alike but for override leaves, what a call does to
+-- an unsound record, and what a request does by the wider state map.
+use mathlib.Core.Path.{_≡_, refl, sym, ap, subst, _∙_}
 use mathlib.Core.Logic.{_⊎_, _≢_, inl, inr}
-use mathlib.Core.Bool.{true, false, not, true≢false}
+use mathlib.Core.Bool.{true, false, not, cond, _&&_, true≢false}
 use mathlib.Core.List.{List, [], _∷_}
 use Prim.Native.Nat.{ℕ, _<_}
 use native.Mathlib.Omega.{arith}
@@ -11,12 +11,16 @@ use lib.Count.{ones}
 use lib.Dec.{T, T-not}
 use lib.ListN.{length, getD}
 use Rattle.rules.specs.declared.states.Contactor.{Contactor}
-use Rattle.rules.specs.declared.states.State.the-variants.{Unpowered}
+use Rattle.rules.specs.declared.states.State.the-variants.{Unpowered, Dormant, Operational, Maintenance}
+use Rattle.rules.specs.declared.calls.Command.the-variants.{Automated}
+use Rattle.rules.specs.declared.calls.Request.the-variants.{Dormant as ToDormant}
 use Rattle.rules.specs.declared.calls.Event.{Event}
 use Rattle.rules.specs.declared.battery.Record.{Record}
 use Rattle.rules.specs.Quantities.{ms, isType}
-use Rattle.rules.specs.Numbers.{contactorNumber}
-use Rattle.rules.specs.Refusals.{refusal}
+use Rattle.rules.specs.Calls.{timeOf}
+use Rattle.rules.specs.Numbers.{stateNumber, contactorNumber}
+use Rattle.rules.specs.States.{isChange, entersDormant}
+use Rattle.rules.specs.Refusals.{refusal, InTime}
 use Rattle.rules.specs.Test.{plausible, failedMask, failedCount}
 use Rattle.rules.specs.Protections.{extremes, permitted, rowOf}
 use Rattle.rules.specs.Ledger.{ledger, TrippedOn, isTrippedOn}
@@ -26,7 +30,8 @@ use Rattle.rules.specs.Alike.{Alike, none as noCalls, same, switched}
 use Rattle.rules.specs.Soundness.{Sound}
 use Rattle.rules.specs.Shared.{shownBy}
 use Rattle.rules.specs.Claims.{typeOr1, Engine, AfterList, AfterEveryList, TwoRuns, AnyTwoLists, Starter, OfEveryType, OnEveryRecord}
-use Rattle.rules.specs.Worthless.{Seen, cellsOf, example, lowCellsUnder, lowCellTrip, lowCellsForced, overPowerLoss, betweenAfterTrip, Row, Shows, rows}
+use Rattle.rules.specs.StateMap.{OneCall, ByWiderMap}
+use Rattle.rules.specs.Worthless.{Seen, cellsOf, toDormant, toOperational, toMaintenance, lowCellsUnder, lowCellTrip, Row, Shows, rows}
 use Rattle.rules.proofs.Lists.{at-index}
 use Rattle.rules.proofs.Decide.{is-tripped}
 use Rattle.rules.proofs.Closing.{is-closed}
@@ -89,6 +94,15 @@ each-row =
     and (λ answers after contactor owed. trips owed 0 (omega arith) tt and owed .shared .shortTerm and none)
     and (λ answers after contactor owed. owed .shared .longTerm and owed .shared .shortTerm and none)
     and (λ answers after contactor owed. owed .batteryType and owed .answered and none)
+    and (λ answers after contactor owed. owed .shared .state and owed .shared .command and owed .override and closes owed tt and none)
+    and (λ answers after contactor owed.
+    owed .answered
+    and owed .shared .state
+    and owed .shared .command
+    and owed .override
+    and owed .shared .test
+    and opens owed tt
+    and none)
     and none
 
 pub shows : (engine : Engine) → AfterEveryList engine → (i : ℕ) → i < length rows → (d : Row) → Shows engine (getD rows i d)
@@ -184,6 +198,66 @@ module _ (call : Record → Event → ℕ → Record → Type 0) (claims : OnEve
     where
       eight : answer ≡ 8
       eight = claims _ _ _ _ called .byTable s ∙ rw (off, start) refl
+
+-- ---- document 02, S-3: one call at time 0 on a sound record at last time 0
+
+module _ (call : OneCall) (has : Record → Contactor → Type 0) (claims : ByWiderMap call has) (before : Record) (s : Sound before) (start : before .live .last ≡ ms 0) where
+  timely : (e : Event) → timeOf e ≡ ms 0 → InTime (before .live .last) (timeOf e)
+  timely e at = rw (start, at) (record { notBelowLast = omega arith; notAboveMission = omega arith })
+
+  pub shortcut-gets-0 : (answer : ℕ) (after : Record) → call before toDormant answer after → before .live .control .state ≡ Maintenance → answer ≡ 0
+  shortcut-gets-0 answer after called is =
+      claims .shortcutAccepted before toDormant answer after called s (record { state = is; request = refl }) (timely toDormant refl)
+
+  -- once accepted, it opens the contactor
+  pub shortcut-is-open : (answer : ℕ) (after : Record) (contactor : Contactor) → call before toDormant answer after → has after contactor
+      → before .live .control .state ≡ Maintenance → contactorNumber contactor ≡ 0
+  shortcut-is-open answer after contactor called shown is =
+      claims .shortcutOpens before toDormant answer after contactor called shown (record { state = is; request = refl }) (shortcut-gets-0 answer after called is)
+
+  -- the two get 0 as well, and leave one record
+  pub two-get-0 : (answer : ℕ) (after : Record) → call before toDormant answer after → before .live .control .state ≡ Maintenance
+      → (answer₁ : ℕ) (between : Record) → call before toOperational answer₁ between
+      → (answer₂ : ℕ) (after₂ : Record) → call between toDormant answer₂ after₂
+      → (answer₁ ≡ 0) × (answer₂ ≡ 0) × (after₂ ≡ after)
+  two-get-0 answer after called is answer₁ between called₁ answer₂ after₂ called₂ =
+      let same = claims .twoSteps before is (ms 0) answer after called answer₁ between called₁ answer₂ after₂ called₂ in
+      let zero = shortcut-gets-0 answer after called is in
+      (same .first ∙ zero, same .second ∙ zero, same .left)
+
+  pub dormant-keeps-9 : (answer : ℕ) (after : Record) → call before toMaintenance answer after → before .live .control .state ≡ Dormant → answer ≡ 9
+  dormant-keeps-9 answer after called is =
+      claims .stillNine before toMaintenance answer after called s .1
+      (record { request = record { state = is; request = refl }; time = timely toMaintenance refl })
+
+  -- and none else: Operational goes to Maintenance
+  pub operational-gets-0 : (answer : ℕ) (after : Record) → call before toMaintenance answer after → before .live .control .state ≡ Operational → answer ≡ 0
+  operational-gets-0 answer after called is =
+      claims .answersWidened before toMaintenance answer after called s .others (λ other. differ (sym is ∙ other .state)) ∙ rw (is, start) refl
+    where
+      differ : ¬ (Operational ≡ Maintenance)
+      differ h = let no : _≡_ {A = ℕ} 2 3 = ap stateNumber h in omega (arith, no)
+
+  -- Operational to Dormant, as before: Automated, override off, and what else the record holds as it was
+  pub operational-to-dormant : (answer : ℕ) (after : Record) → call before toDormant answer after → before .live .control .state ≡ Operational
+      → (answer ≡ 0)
+      × (after .live .control .state ≡ Dormant)
+      × (after .live .control .command ≡ Automated)
+      × (after .live .control .overriding ≡ false)
+      × (after .live .last ≡ ms 0)
+      × (after .live .battery ≡ before .live .battery)
+      × (after .live .watch ≡ before .live .watch)
+      × (after .live .tally ≡ before .live .tally)
+      × (after .stores ≡ before .stores)
+  operational-to-dormant answer after called is =
+      let (accepted, left) = claims .asBefore before (ms 0) ToDormant answer after called s (rw (is, start) refl) in
+      (accepted, left .state, left .command ∙ reset, left .override ∙ off, left .last, left .battery, left .watch, left .tally, left .stores)
+    where
+      reset : cond (isChange (before .live .control .state) ToDormant) Automated (before .live .control .command) ≡ Automated
+      reset = rw is refl
+
+      off : not (entersDormant (before .live .control .state) ToDormant) && before .live .control .overriding ≡ false
+      off = rw is refl
 
 -- "number 5 never arises": on what a list leaves
 pub never-5 : (engine : Engine) → AfterEveryList engine → (call : Record → Event → ℕ → Record → Type 0) → OnEveryRecord call

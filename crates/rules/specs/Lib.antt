@@ -20,5 +20,6 @@ pub mod Answers
 pub mod Logs
 pub mod Text
 pub mod Claims
+pub mod StateMap
 pub mod Examples
 pub mod Worthless

@@ -1,6 +1,6 @@
 -- Document 01, "Where each number is raised": the table, a list of (number, condition) for each place, in its order. The first condition
 -- that holds gives the answer; 0 where none holds.
-use Prim.Native.Nat.{ℕ}
+use Prim.Native.Nat.{ℕ, _≤_}
 use mathlib.Core.Bool.{Bool, false, not, cond}
 use mathlib.Core.List.{List, [], _∷_}
 use lib.Dec.{ltb}
@@ -10,7 +10,7 @@ use Rattle.rules.specs.declared.states.State.{State}
 use Rattle.rules.specs.declared.units.Milliseconds.{Milliseconds}
 use Rattle.rules.specs.Quantities.{_<ms_, missionTime, isType}
 use Rattle.rules.specs.Calls.{timeOf}
-use Rattle.rules.specs.States.{isPowered, requestAllowed, commandAllowed, overrideAllowed, clearAllowed}
+use Rattle.rules.specs.States.{isPowered, StateMap, requestAllowed, commandAllowed, overrideAllowed, clearAllowed}
 
 pub record Check : Type 0 where
   pub refusal : ℕ
@@ -36,15 +36,18 @@ isWrongPower s (StateRequest t q) = not (isPowered s)
 isWrongPower s (BattleOverride t on) = not (isPowered s)
 isWrongPower s (ClearLongTerm t) = not (isPowered s)
 
--- "state request not allowed"
+-- "state request not allowed", by a state map
+abbrev pub isForbiddenBy : StateMap → State → Event → Bool
+isForbiddenBy map s (StateRequest t q) = not (map s q)
+isForbiddenBy map s (Measurement t r) = false
+isForbiddenBy map s (PowerOn t) = false
+isForbiddenBy map s (PowerLoss t) = false
+isForbiddenBy map s (ContactorCommand t c) = false
+isForbiddenBy map s (BattleOverride t on) = false
+isForbiddenBy map s (ClearLongTerm t) = false
+
 abbrev pub isForbiddenRequest : State → Event → Bool
-isForbiddenRequest s (StateRequest t q) = not (requestAllowed s q)
-isForbiddenRequest s (Measurement t r) = false
-isForbiddenRequest s (PowerOn t) = false
-isForbiddenRequest s (PowerLoss t) = false
-isForbiddenRequest s (ContactorCommand t c) = false
-isForbiddenRequest s (BattleOverride t on) = false
-isForbiddenRequest s (ClearLongTerm t) = false
+isForbiddenRequest s e = isForbiddenBy requestAllowed s e
 
 -- "command, override or clear not allowed"
 abbrev pub isForbiddenOther : State → ℕ → Event → Bool
@@ -56,18 +59,27 @@ isForbiddenOther s commands (PowerOn t) = false
 isForbiddenOther s commands (PowerLoss t) = false
 isForbiddenOther s commands (StateRequest t q) = false
 
--- Rows 6 to 10, on a state, a last accepted time and a command count.
-abbrev pub callChecks : State → Milliseconds → ℕ → Event → List Check
-callChecks s last commands e =
+-- Rows 6 to 10, by a state map, on a state, a last accepted time and a command count.
+abbrev pub callChecksBy : StateMap → State → Milliseconds → ℕ → Event → List Check
+callChecksBy map s last commands e =
     record { refusal = 6; condition = timeOf e <ms last }
     ∷ record { refusal = 7; condition = missionTime <ms timeOf e }
     ∷ record { refusal = 8; condition = isWrongPower s e }
-    ∷ record { refusal = 9; condition = isForbiddenRequest s e }
+    ∷ record { refusal = 9; condition = isForbiddenBy map s e }
     ∷ record { refusal = 10; condition = isForbiddenOther s commands e }
     ∷ []
 
+abbrev pub refusalBy : StateMap → State → Milliseconds → ℕ → Event → ℕ
+refusalBy map s last commands e = firstOf (callChecksBy map s last commands e)
+
+-- by the map in force
 unfoldable pub refusal : State → Milliseconds → ℕ → Event → ℕ
-refusal s last commands e = firstOf (callChecks s last commands e)
+refusal s last commands e = refusalBy requestAllowed s last commands e
+
+-- what 6 and 7 leave: a time that is not below the last accepted time and not above 345,600,000 ms
+pub record InTime (last t : Milliseconds) : Type 0 where
+  pub notBelowLast : last .0 ≤ t .0
+  pub notAboveMission : t .0 ≤ missionTime .0
 
 -- The numbers that the table gives for a call, 0 for an accepted one among them.
 pub data CallAnswer : ℕ → Type 0 where
@@ -99,7 +111,7 @@ eventWriteChecks buffer due = room buffer due ∷ []
 
 -- a stored record, with its protection number
 abbrev pub entryWriteChecks : ℕ → ℕ → ℕ → List Check
-entryWriteChecks refusal buffer due = record { refusal = 4; condition = ltb 7 refusal } ∷ room buffer due ∷ []
+entryWriteChecks protection buffer due = record { refusal = 4; condition = ltb 7 protection } ∷ room buffer due ∷ []
 
 -- an export, on whether the record is sound
 abbrev pub exportChecks : Bool → ℕ → ℕ → List Check

@@ -1,6 +1,6 @@
--- Document 01, "States": the state map, and what is allowed where. What power on and power loss set is in Ledger.
+-- Document 01, "States", and document 02, S-3: the state map, and what is allowed where. What power on and power loss set is in Ledger.
 use Prim.Native.Nat.{ℕ}
-use mathlib.Core.Bool.{Bool, true, false, _&&_}
+use mathlib.Core.Bool.{Bool, true, false, _&&_, _||_}
 use lib.Dec.{ltb}
 use Rattle.rules.specs.declared.states.State.{State}
 use Rattle.rules.specs.declared.states.State.the-variants.{Unpowered, Dormant, Operational, Maintenance}
@@ -21,21 +21,38 @@ requested ToDormant = Dormant
 requested ToOperational = Operational
 requested ToMaintenance = Maintenance
 
+-- which requests are allowed in which state
+abbrev pub StateMap : Type 0
+StateMap = State → Request → Bool
+
 -- "State requests allowed: Dormant to Operational, Operational to Dormant, Operational to Maintenance, Maintenance to Operational, and a
--- state to itself."
-abbrev pub requestAllowed : State → Request → Bool
-requestAllowed Unpowered ToDormant = false
-requestAllowed Unpowered ToOperational = false
-requestAllowed Unpowered ToMaintenance = false
-requestAllowed Dormant ToDormant = true
-requestAllowed Dormant ToOperational = true
-requestAllowed Dormant ToMaintenance = false
-requestAllowed Operational ToDormant = true
-requestAllowed Operational ToOperational = true
-requestAllowed Operational ToMaintenance = true
-requestAllowed Maintenance ToDormant = false
-requestAllowed Maintenance ToOperational = true
-requestAllowed Maintenance ToMaintenance = true
+-- state to itself.": document 01's map
+abbrev pub requestListed : StateMap
+requestListed Unpowered ToDormant = false
+requestListed Unpowered ToOperational = false
+requestListed Unpowered ToMaintenance = false
+requestListed Dormant ToDormant = true
+requestListed Dormant ToOperational = true
+requestListed Dormant ToMaintenance = false
+requestListed Operational ToDormant = true
+requestListed Operational ToOperational = true
+requestListed Operational ToMaintenance = true
+requestListed Maintenance ToDormant = false
+requestListed Maintenance ToOperational = true
+requestListed Maintenance ToMaintenance = true
+
+-- document 02, S-3: "Maintenance straight to Dormant"
+abbrev pub isShortcut : StateMap
+isShortcut Unpowered q = false
+isShortcut Dormant q = false
+isShortcut Operational q = false
+isShortcut Maintenance ToDormant = true
+isShortcut Maintenance ToOperational = false
+isShortcut Maintenance ToMaintenance = false
+
+-- "the wider state map", which is the one in force
+abbrev pub requestAllowed : StateMap
+requestAllowed s q = requestListed s q || isShortcut s q
 
 -- "A real change of state": the state named is not the present one.
 abbrev pub isChange : State → Request → Bool

@@ -1,15 +1,16 @@
 -- Document 01, "Worthless engines" and "Bench mistakes seen", as rows of one table: short lists, and what an engine that meets the claims
--- shows after each. What is worthless or mistaken shows something else. proofs/Worthless has one theorem over all rows.
+-- shows after each; a row or two for a request of document 02. What is worthless or mistaken shows something else. proofs/Worthless has one
+-- theorem over all rows.
 use Prim.Native.Nat.{ℕ, zero, suc, _+_}
 use mathlib.Core.Path.{_≡_}
 use mathlib.Core.Logic.{_≢_}
 use mathlib.Core.Bool.{Bool, true}
-use mathlib.Core.List.{List, [], _∷_}
+use mathlib.Core.List.{List, [], _∷_, _++_}
 use lib.IntN.{ℤ, pos, negℤ}
 use Rattle.rules.specs.declared.sensors.Reading.{Reading}
 use Rattle.rules.specs.declared.states.Contactor.{Contactor}
 use Rattle.rules.specs.declared.calls.Command.the-variants.{Automated, Open, ForceClosed}
-use Rattle.rules.specs.declared.calls.Request.the-variants.{Operational, Maintenance}
+use Rattle.rules.specs.declared.calls.Request.the-variants.{Dormant, Operational, Maintenance}
 use Rattle.rules.specs.declared.calls.Event.{Event}
 use Rattle.rules.specs.declared.calls.Event.the-variants.{Measurement, PowerOn, PowerLoss, ContactorCommand, StateRequest, BattleOverride}
 use Rattle.rules.specs.declared.stores.Entry.{Entry}
@@ -83,6 +84,9 @@ powerOn t = PowerOn (ms t)
 abbrev pub powerLoss : ℕ → Event
 powerLoss t = PowerLoss (ms t)
 
+abbrev pub toDormant : Event
+toDormant = StateRequest (ms 0) Dormant
+
 abbrev pub toOperational : Event
 toOperational = StateRequest (ms 0) Operational
 
@@ -106,6 +110,10 @@ example = powerOn 0 ∷ toOperational ∷ cellsOf 1_000 3_300 ∷ ContactorComma
 
 abbrev pub lowCellsForced : List Event
 lowCellsForced = powerOn 0 ∷ toOperational ∷ toMaintenance ∷ ContactorCommand (ms 0) ForceClosed ∷ lowCells
+
+-- Maintenance with Force closed in force and override on: the contactor is closed
+abbrev pub forced : List Event
+forced = powerOn 0 ∷ toOperational ∷ toMaintenance ∷ ContactorCommand (ms 0) ForceClosed ∷ BattleOverride (ms 0) true ∷ cellsOf 0 3_300 ∷ []
 
 -- the highest cell high for the hold of protection 0, on both sides of a power loss
 abbrev pub overPowerLoss : List Event
@@ -151,6 +159,7 @@ Shows engine r = (given : List ℕ) (after : Record) (contactor : Contactor) →
 -- "counting values between beyond and within as within"
 -- "keeping the newest 64"
 -- beside number 1, a record of type 1
+-- document 02, S-3: from Maintenance, and to Dormant from there, which ends Force closed and override
 unfoldable pub rows : List Row
 rows =
     row 1 (powerOn 0 ∷ powerLoss 0 ∷ powerOn 7 ∷ []) (answers (0 ∷ 0 ∷ 0 ∷ []) ∷ state 1 ∷ last 7 ∷ [])
@@ -168,4 +177,6 @@ rows =
     ∷ row 1 betweenAfterTrip (tripped 0 ∷ shortTerm (Trip (ms 500) 0 (pos 3_651) ∷ []) ∷ [])
     ∷ row 1 (sessions 0 65) (longTerm (sessionTrips 0 64) ∷ shortTerm [] ∷ [])
     ∷ row 0 (powerOn 0 ∷ []) (batteryType 1 ∷ answers (0 ∷ []) ∷ [])
+    ∷ row 1 forced (state 3 ∷ command 2 ∷ override 1 ∷ closed ∷ [])
+    ∷ row 1 (forced ++ toDormant ∷ []) (answers (0 ∷ 0 ∷ 0 ∷ 0 ∷ 0 ∷ 0 ∷ 0 ∷ []) ∷ state 1 ∷ command 0 ∷ override 0 ∷ test 1 ∷ open' ∷ [])
     ∷ []

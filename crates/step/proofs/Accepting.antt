@@ -6,14 +6,14 @@ use Rattle.rules.specs.declared.calls.Event.{Event}
 use Rattle.rules.specs.declared.calls.Event.the-variants.{Measurement, PowerOn, PowerLoss, ContactorCommand, StateRequest, BattleOverride, ClearLongTerm}
 use Rattle.rules.specs.declared.battery.Record.{Record}
 use Rattle.rules.specs.Calls.{timeOf}
+use Rattle.rules.specs.Refusals.{InTime}
 use Rattle.rules.specs.Ledger.{Ledger, accept, Accepted, entered}
 use Rattle.step.specs.Call.{advance}
-use Rattle.step.proofs.Refusals.{InTime}
 use Rattle.step.proofs.Shows.{Shows}
 use Rattle.step.proofs.Measuring.{measured}
 use Rattle.step.proofs.Setting.{commanded, requested', overridden, cleared, bordered}
 
-pub accepted : (r : Record) (l : Ledger) (past : List Accepted) → Shows r l past → (e : Event) → InTime (l .last .0) (timeOf e .0)
+pub accepted : (r : Record) (l : Ledger) (past : List Accepted) → Shows r l past → (e : Event) → InTime (l .last) (timeOf e)
     → Shows (advance r e) (accept l e) (entered l e ∷ past)
 accepted r l past k (Measurement t m) h = measured r l past k t m h
 accepted r l past k (PowerOn t) h = bordered r l past k t h Dormant (entered l (PowerOn t)) (record { charged = refl; discharged = refl }) refl refl

@@ -13,3 +13,4 @@ pub mod Closing
 pub mod Overrides
 pub mod Claims
 pub mod Printing
+pub mod StateMap

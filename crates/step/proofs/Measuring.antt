@@ -21,6 +21,7 @@ use Rattle.rules.specs.Quantities.{mAms}
 use Rattle.rules.specs.Test.{plausible}
 use Rattle.rules.specs.Protections.{rowOf}
 use Rattle.rules.specs.Trips.{Measured}
+use Rattle.rules.specs.Refusals.{InTime}
 use Rattle.rules.specs.Ledger.{Ledger, accept, Accepted, entered, isTrippedOn}
 use Rattle.rules.specs.Stores.{since, isClear, isBorder, tripsOf, entriesOf}
 use Rattle.rules.specs.Accounts.{account, increment, positiveTimes, negativeTimes}
@@ -30,8 +31,7 @@ use Rattle.rules.proofs.Lists.{at-place, take-kept, last-kept}
 use Rattle.step.specs.Track.{trackOne, trackAll, observe}
 use Rattle.step.specs.Charge.{flowed, charge}
 use Rattle.step.specs.Call.{advance}
-use Rattle.step.proofs.Tracking.{AllBy, Ordered, all-by-later, Tracks, tracks-next}
-use Rattle.step.proofs.Refusals.{InTime}
+use Rattle.step.proofs.Tracking.{Ordered, all-by-later, Tracks, tracks-next}
 use Rattle.step.proofs.Adding.{Added, added-all}
 use Rattle.step.proofs.Charging.{flowed-is, accountTime, account-time, Bounded, increment-bounded, positive-bounded, negative-bounded}
 use Rattle.step.proofs.Shows.{ShowsWatch, ShowsTally, ShowsStores, Shows}
@@ -66,7 +66,7 @@ module _ (battery : ℕ) (t : Milliseconds) (r : Reading) (taken : List Measured
 
 -- ---- the record
 
-module _ (r : Record) (l : Ledger) (past : List Accepted) (k : Shows r l past) (t : Milliseconds) (m : Reading) (h : InTime (l .last .0) (t .0)) where
+module _ (r : Record) (l : Ledger) (past : List Accepted) (k : Shows r l past) (t : Milliseconds) (m : Reading) (h : InTime (l .last) t) where
   abbrev new : Measured
   new = record { at = t; reading = m }
 
@@ -74,7 +74,7 @@ module _ (r : Record) (l : Ledger) (past : List Accepted) (k : Shows r l past) (
   a = entered l (Measurement t m)
 
   ordered : Ordered (new ∷ l .measured)
-  ordered = (all-by-later (l .last .0) (t .0) (h .after) (l .measured) (k .timed .by), k .timed .ordered)
+  ordered = (all-by-later (l .last .0) (t .0) (h .notBelowLast) (l .measured) (k .timed .by), k .timed .ordered)
 
   watched : ShowsWatch (r .live .battery) (observe (r .live .battery) t m (r .live .watch)) (new ∷ l .measured)
   watched = observed (r .live .battery) t m (l .measured) ordered (r .live .watch) (k .watch)
@@ -109,7 +109,7 @@ module _ (r : Record) (l : Ledger) (past : List Accepted) (k : Shows r l past) (
     account-by : n .0 ≤ 2_000_000 * accountTime (l .last .0) (l .measured) → n .0 + more .0 ≤ 2_000_000 * t .0
     account-by q =
         rw is-increment
-        (increment-bounded part b (l .measured) new (l .last .0) (n .0) (omega (arith, account-time (l .last .0) (l .measured) (k .timed .by), h .after)) q)
+        (increment-bounded part b (l .measured) new (l .last .0) (n .0) (omega (arith, account-time (l .last .0) (l .measured) (k .timed .by), h .notBelowLast)) q)
 
   tallied : ShowsTally (advance r (Measurement t m) .live .tally) (l .commands) (t .0) (a ∷ past)
   unfolding charge more
@@ -129,5 +129,5 @@ module _ (r : Record) (l : Ledger) (past : List Accepted) (k : Shows r l past) (
     watch = watched;
     tally = tallied;
     stores = stored;
-    timed = record { by = (omega arith, ordered .0); ordered = ordered; mission = h .before };
+    timed = record { by = (omega arith, ordered .0); ordered = ordered; mission = h .notAboveMission };
   }

@@ -1,14 +1,14 @@
 -- What the table of the rules can answer, and what an accepted call's time is.
 use mathlib.Core.Path.{_≡_, refl}
 use mathlib.Core.Bool.{Bool, true, false, cond}
-use Prim.Native.Nat.{ℕ, _≤_}
+use Prim.Native.Nat.{ℕ}
 use native.Mathlib.Omega.{arith}
 use borrow.Author.Tests.{ltb-false}
 use Rattle.rules.specs.declared.states.State.{State}
 use Rattle.rules.specs.declared.calls.Event.{Event}
 use Rattle.rules.specs.Quantities.{_<ms_, missionTime}
 use Rattle.rules.specs.Calls.{timeOf}
-use Rattle.rules.specs.Refusals.{CallAnswer, isWrongPower, isForbiddenRequest, isForbiddenOther}
+use Rattle.rules.specs.Refusals.{InTime, CallAnswer, isWrongPower, isForbiddenRequest, isForbiddenOther}
 use Rattle.rules.specs.Refusals.{refusal as refusalByTable}
 use Rattle.rules.specs.Refusals.{CallAnswer.accepted, CallAnswer.timeBelowLast, CallAnswer.timeAboveMission, CallAnswer.wrongPower, CallAnswer.requestNotAllowed, CallAnswer.otherNotAllowed}
 
@@ -41,15 +41,11 @@ table-not-5 s last n e =
     first-not-5 (timeOf e <ms last) (missionTime <ms timeOf e) (isWrongPower s e) (isForbiddenRequest s e) (isForbiddenOther s n e)
 
 -- what an accepted call's time is
-pub record InTime (last t : ℕ) : Type 0 where
-  pub after : last ≤ t
-  pub before : t ≤ missionTime .0
-
-pub in-time : (s : State) (last : _) (n : ℕ) (e : Event) → refusalByTable s last n e ≡ 0 → InTime (last .0) (timeOf e .0)
+pub in-time : (s : State) (last : _) (n : ℕ) (e : Event) → refusalByTable s last n e ≡ 0 → InTime last (timeOf e)
 unfolding refusalByTable
 in-time s last n e z = go (timeOf e <ms last) refl (missionTime <ms timeOf e) refl
   where
-    go : (a : Bool) → (timeOf e <ms last) ≡ a → (b : Bool) → (missionTime <ms timeOf e) ≡ b → InTime (last .0) (timeOf e .0)
+    go : (a : Bool) → (timeOf e <ms last) ≡ a → (b : Bool) → (missionTime <ms timeOf e) ≡ b → InTime last (timeOf e)
     go true h b k = let no-way : _≡_ {A = ℕ} 6 0 = rw h at z in absurd (omega arith)
     go false h true k = let no-way : _≡_ {A = ℕ} 7 0 = rw (h, k) at z in absurd (omega arith)
-    go false h false k = record { after = ltb-false _ _ h; before = ltb-false _ _ k }
+    go false h false k = record { notBelowLast = ltb-false _ _ h; notAboveMission = ltb-false _ _ k }

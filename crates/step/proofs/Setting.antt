@@ -19,14 +19,13 @@ use Rattle.rules.specs.declared.battery.Tally.{Tally}
 use Rattle.rules.specs.declared.battery.Record.{Record}
 use Rattle.rules.specs.Lists.{lastOf}
 use Rattle.rules.specs.Quantities.{mAms}
-use Rattle.rules.specs.Trips.{Measured}
+use Rattle.rules.specs.Refusals.{InTime}
 use Rattle.rules.specs.Ledger.{Ledger, accept, border, Accepted, entered}
 use Rattle.rules.specs.Stores.{since, isClear, isBorder, tripsOf, entriesOf, longTerm, shortTerm}
 use Rattle.rules.specs.Accounts.{charged, discharged}
 use Rattle.rules.specs.Shown.{longEntries, shortEntries}
 use Rattle.step.specs.Call.{setLive, borderLive, borderStores, requestControl, advance}
-use Rattle.step.proofs.Tracking.{AllBy, all-by-later}
-use Rattle.step.proofs.Refusals.{InTime}
+use Rattle.step.proofs.Tracking.{all-by-later}
 use Rattle.step.proofs.Charging.{accountTime, account-time, account-going}
 use Rattle.step.proofs.Shows.{ShowsControl, ShowsTally, ShowsStores, Timed, Shows, watch-none, long-none, short-none}
 
@@ -42,9 +41,9 @@ requested-control q t c l k = record {
 
 -- ---- a call that takes no measurement, and what it leaves as it is
 
-module _ (r : Record) (l : Ledger) (past : List Accepted) (k : Shows r l past) (t : Milliseconds) (h : InTime (l .last .0) (t .0)) where
+module _ (r : Record) (l : Ledger) (past : List Accepted) (k : Shows r l past) (t : Milliseconds) (h : InTime (l .last) t) where
   timed : Timed (t .0) (l .measured)
-  timed = record { by = all-by-later (l .last .0) (t .0) (h .after) (l .measured) (k .timed .by); ordered = k .timed .ordered; mission = h .before }
+  timed = record { by = all-by-later (l .last .0) (t .0) (h .notBelowLast) (l .measured) (k .timed .by); ordered = k .timed .ordered; mission = h .notAboveMission }
 
   -- a call that adds nothing to an account or a store
   pub record AddsNothing (more : Accepted) : Type 0 where
@@ -94,7 +93,7 @@ module _ (r : Record) (l : Ledger) (past : List Accepted) (k : Shows r l past) (
     control = shown;
     watch = rw measured (k .watch);
     tally = rw (last, measured)
-        (tally-kept n (accept l e .commands) (accountTime (t .0) (l .measured)) same (account-going (l .last .0) (t .0) (l .measured) (h .after)) (entered l e) adds);
+        (tally-kept n (accept l e .commands) (accountTime (t .0) (l .measured)) same (account-going (l .last .0) (t .0) (l .measured) (h .notBelowLast)) (entered l e) adds);
     stores = stores;
     timed = rw (last, measured) timed;
   }
@@ -137,7 +136,7 @@ module _ (r : Record) (l : Ledger) (past : List Accepted) (k : Shows r l past) (
     last = refl;
     control = record { state = refl; command = refl; override = refl };
     watch = watch-none (r .live .battery);
-    tally = tally-kept (r .live .tally) (l .commands) (t .0) same-accounts (omega (arith, account-time (l .last .0) (l .measured) (k .timed .by), h .after)) more adds;
+    tally = tally-kept (r .live .tally) (l .commands) (t .0) same-accounts (omega (arith, account-time (l .last .0) (l .measured) (k .timed .by), h .notBelowLast)) more adds;
     stores = record { long = long-kept ∙ sym long; short = sym short; fits = record { long = k .stores .fits .long; short = short-none } };
-    timed = record { by = tt; ordered = tt; mission = h .before };
+    timed = record { by = tt; ordered = tt; mission = h .notAboveMission };
   }

@@ -99,7 +99,7 @@ def check_answers(first, second):
     exactly when demand 3 says so. Gives what was met on the way."""
     answers, others = rows(first[1]), rows(second[1])
     assert len(answers) == len(others) == len(first[0]) and first[1].splitlines()[-1] == second[1].splitlines()[-1]
-    met = set()
+    met, before = set(), (0, 0, 0)  # state and both overrides before the call
     for a, b, (which, on), (_, other) in zip(answers, others, held(first[0], answers), held(second[0], others)):
         assert [a[i] for i in (0, 1, 2, 4, 6)] == [b[i] for i in (0, 1, 2, 4, 6)] and (a[5], b[5]) == (on, other), (a, b)
         state, tripped, permit = a[2], a[4], a[6] == 1 and (a[2], which) in ((2, 0), (3, 2))
@@ -108,6 +108,9 @@ def check_answers(first, second):
         for row in a, b:
             assert row[3] == int(permit and (tripped == 0 or liftable and row[5] == 1)), row
         met |= {("refusal", a[1]), ("state", state)}
+        if (before[0], state) == (3, 1):
+            met |= {("Maintenance to Dormant", *before[1:])}
+        before = state, on, other
         if permit and tripped:
             met |= {("liftable", state, on, other) if liftable else ("not liftable", on, other)}
     return met
@@ -146,7 +149,7 @@ def check_shown(name, met, record):
     """That a pair shows what it is for, in its answers and in its last record, where nothing is 0 that could be."""
     wanted = {("refusal", n) for n in (0, 6, 7, 8, 9, 10)} | {("state", n) for n in range(4)}
     wanted |= {("liftable", 2, *two) for two in itertools.product((0, 1), repeat=2)}
-    wanted |= {("liftable", 3, 0, 1), ("liftable", 3, 1, 0), ("not liftable", 0, 1), ("not liftable", 1, 0)}
+    wanted |= {("liftable", 3, 0, 1), ("liftable", 3, 1, 0), ("not liftable", 0, 1), ("not liftable", 1, 0), ("Maintenance to Dormant", 0, 1)}
     assert wanted <= met, wanted - met
     zeros = [n for n, value in record.items() if value.strip("0") in ("", "-")]
     assert set(zeros) == {"override", "contactor", *(("failed", "failed_count") if name == "apart" else ())}, zeros

@@ -1,4 +1,4 @@
-"""The independent model, peer's `model`, which was written from document 01 alone: what it prints for a log, and holds after it."""
+"""The independent model, peer's `model`, which was written from the papers alone: what it prints for a log, and holds after it."""
 import functools
 import pathlib
 import subprocess

@@ -118,15 +118,19 @@ DAMAGED = {
 }
 
 
-# document 02, S-3: what follows the six lines of Maintenance with Force closed, override on and a closed contactor. The one request opens
-# the contactor at once; of the two that it means, the first leaves it closed, in Operational with Automated
-FORCED = "1 0 1 0 00 0 0\n2 0 2 0 00 0 0\n3 0 3 0 00 0 0\n4 0 3 0 00 0 0\n5 0 3 0 00 1 0\n6 0 3 1 00 1 1\n"
+# document 02, S-3: what follows Maintenance with Force closed, override on and a closed contactor, or with Automated and an open one. The one
+# request leaves the contactor open; the first of the two that it means has it closed, in Operational with Automated
+MAINTENANCE_LINES = "1 0 1 0 00 0 0\n2 0 2 0 00 0 0\n3 0 3 0 00 0 0\n"
+FORCED_LINES = MAINTENANCE_LINES + "4 0 3 0 00 0 0\n5 0 3 0 00 1 0\n6 0 3 1 00 1 1\n"
+AUTOMATED_LINES = MAINTENANCE_LINES + "4 0 3 0 00 0 1\n"
 SHORTCUTS = {
-    "shortcut": "7 0 1 0 00 0 1\n",
-    "shortcut_in_two": "7 0 2 1 00 1 1\n8 0 1 0 00 0 1\n",
-    "shortcut_early": "7 0 3 1 00 1 1\n8 6 3 1 00 1 1\n",
-    "shortcut_late": "7 7 3 1 00 1 1\n",
-    "shortcut_unpowered": "7 0 0 0 00 0 0\n8 8 0 0 00 0 0\n",
+    "shortcut": FORCED_LINES + "7 0 1 0 00 0 1\n",
+    "shortcut_in_two": FORCED_LINES + "7 0 2 1 00 1 1\n8 0 1 0 00 0 1\n",
+    "shortcut_automated": AUTOMATED_LINES + "5 0 1 0 00 0 1\n",
+    "shortcut_automated_in_two": AUTOMATED_LINES + "5 0 2 1 00 0 1\n6 0 1 0 00 0 1\n",
+    "shortcut_early": FORCED_LINES + "7 0 3 1 00 1 1\n8 6 3 1 00 1 1\n",
+    "shortcut_late": FORCED_LINES + "7 7 3 1 00 1 1\n",
+    "shortcut_unpowered": FORCED_LINES + "7 0 0 0 00 0 0\n8 8 0 0 00 0 0\n",
 }
 
 
@@ -137,7 +141,7 @@ def logs(folder):
     for name, (log, text) in DAMAGED.items():
         yield name, log, text
     for name, lines in SHORTCUTS.items():
-        yield name, benchlog.log(1, *engine_test.LOGS[name]), FORCED + lines + "end 0 0 0\n"
+        yield name, benchlog.log(1, *engine_test.LOGS[name]), lines + "end 0 0 0\n"
     for name, log in ("long", long_log()), ("limits-1", limits(1)), ("limits-3", limits(3)), ("border", border_log()):
         yield name, log, model.text(log)
     for name, log, text, _ in alike.checked():

@@ -10,7 +10,7 @@ def is_table(line):
 
 
 def put(text, lines):
-    """Each of the lines in place of the one with the same first word, which is there."""
+    """Each of the lines in place of the one with the same first word. A request that adds a line to a view has no place for it here yet."""
     rows = {row.split()[0]: row for row in text.splitlines()}
     for line in lines:
         assert line.split()[0] in rows, line
@@ -34,5 +34,7 @@ def logs(folder):
         view = put(path.with_suffix(".view").read_text(), [line for line in lines if not is_table(line)])
         yield path.stem, path.read_bytes(), table, view
     for request in LANDED:
-        for path in sorted((folder / "02" / request).glob("*.log")):
+        paths = sorted((folder / "02" / request).glob("*.log"))
+        assert paths, request
+        for path in paths:
             yield path.stem, path.read_bytes(), path.with_suffix(".out").read_text(), path.with_suffix(".view").read_text()

@@ -1,5 +1,5 @@
 -- Document 02, S-3, "Maintenance straight to Dormant", sentence by sentence, of the code: over what the contracts of `apply` and `contactor`
--- allow, on every record, and over every run. Each statement is in rules:StateMap.
+-- allow, on every record, and over every run. The statements are in rules:StateMap, that of a list's contactor in rules:Claims.
 use mathlib.Core.List.{List}
 use Prim.Native.Nat.{ℕ}
 use Rattle.rules.specs.declared.states.Contactor.{Contactor}

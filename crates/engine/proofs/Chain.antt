@@ -107,7 +107,7 @@ code-by-wider-map = record {
   answersWidened = λ before e given after c. by-wider-map .answersWidened before e given after (step-call before e given after c);
 }
 
--- ---- and there is one, for every type and list
+-- ---- and there is such a run for every type and list, and such a call for every record and event
 
 ran : (r : Record) (es : List Event) → Ran r es (answers r es) (run r es)
 ran r [] = done
@@ -116,3 +116,9 @@ ran r (e ∷ es) = called (call r e) refl (ran (call r e .after) es)
 pub some-run : (battery : ℕ) (calls : List Event)
     → CodeRun battery calls (answers (fresh battery .start) calls) (run (fresh battery .start) calls) (contactorOf (run (fresh battery .start) calls .live))
 some-run battery calls = record { begin = fresh battery; starts = refl; ran = ran (fresh battery .start) calls; has = refl }
+
+pub some-call : (before : Record) (e : Event) → CodeCall before e (call before e .refusal) (call before e .after)
+some-call before e = record { outcome = call before e; gives = refl; refusal = refl; left = refl }
+
+pub some-contactor : (r : Record) → Has r (contactorOf (r .live))
+some-contactor r = refl

@@ -104,7 +104,7 @@ fn at_request(q: Request, s: State) -> u8
 {
     match q {
         Request::Dormant => match s {
-            State::Unpowered => WRONG_POWER, // not allowed either, but 8 comes before 9
+            State::Unpowered => WRONG_POWER, // 8 comes before 9
             State::Dormant => 0,
             State::Operational => 0,
             State::Maintenance => 0, // document 02, S-3

@@ -17,4 +17,5 @@ pub mod ByteLaws
 pub mod LogLaws
 pub mod Listed
 pub mod Parts
+pub mod CallTable
 pub mod StateMap

@@ -1,11 +1,11 @@
 -- Document 02, S-3, of the rules: which answers of the table the wider state map moves, that 9 is for one request alone, and that on the
--- ledger the one request is the two. An engine that meets the table (rules:Claims.OnEveryRecord) owes the first two of its own answers.
+-- ledger the one request is the two. An engine whose answers are the table's (rules:Claims.OnEveryRecord) owes the former of its own.
 use mathlib.Core.Path.{_≡_, refl, sym, ap, _∙_}
 use mathlib.Core.Logic.{_↔_}
-use mathlib.Core.Bool.{Bool, true, false, not, cond, _||_, true≢false}
+use mathlib.Core.Bool.{Bool, true, false, not, cond, or-false, true≢false}
 use Prim.Native.Nat.{ℕ, zero, suc}
 use native.Mathlib.Omega.{arith}
-use borrow.Author.Tests.{ltb-false, le-ltb}
+use borrow.Author.Tests.{ltb-false}
 use Rattle.rules.specs.declared.units.Milliseconds.{Milliseconds}
 use Rattle.rules.specs.declared.states.State.{State}
 use Rattle.rules.specs.declared.states.State.the-variants.{Unpowered, Dormant, Operational, Maintenance}
@@ -13,19 +13,18 @@ use Rattle.rules.specs.declared.calls.Request.{Request}
 use Rattle.rules.specs.declared.calls.Request.the-variants.{Dormant as ToDormant, Operational as ToOperational, Maintenance as ToMaintenance}
 use Rattle.rules.specs.declared.calls.Event.{Event}
 use Rattle.rules.specs.declared.calls.Event.the-variants.{Measurement, PowerOn, PowerLoss, ContactorCommand, StateRequest, BattleOverride, ClearLongTerm}
+use Rattle.rules.specs.declared.battery.Record.{Record}
 use Rattle.rules.specs.Quantities.{_<ms_, missionTime}
 use Rattle.rules.specs.Calls.{timeOf}
 use Rattle.rules.specs.States.{isPowered, requestListed, requestAllowed}
 use Rattle.rules.specs.Refusals.{isWrongPower, isForbiddenBy, isForbiddenOther, refusalBy, refusal, InTime}
 use Rattle.rules.specs.Ledger.{refused, accept, ifAccepted}
-use Rattle.rules.specs.Claims.{OnEveryRecord}
-use Rattle.rules.specs.StateMap.{OneCall, stateOf, Requests, Shortcut, ShortcutAccepted, SameAsTwo, TwoSteps, Enters, AcceptedInTwo, StillNine, Moved, Moved.accepted, Moved.timeBelowLast, Moved.timeAboveMission, TableWidened, AnswersWidened}
+use Rattle.rules.specs.Soundness.{Sound}
+use Rattle.rules.specs.Claims.{OneCall, OnEveryRecord}
+use Rattle.rules.specs.StateMap.{stateOf, IsRequest, Shortcut, SameAsTwo, TwoSteps, Enters, AcceptedInTwo, StillNine, ShortcutAnswers, ShortcutAnswers.accepted, ShortcutAnswers.timeBelowLast, ShortcutAnswers.timeAboveMission, TableWidened, AnswersWidened}
+use Rattle.rules.proofs.CallTable.{in-time, neither-6-nor-7, request-accepted}
 
 -- ---- the maps
-
-or-false : (b : Bool) → (b || false) ≡ b
-or-false true = refl
-or-false false = refl
 
 -- they differ in one place
 same-map : (s : State) (q : Request) → ¬ ((s ≡ Maintenance) × (q ≡ ToDormant)) → requestAllowed s q ≡ requestListed s q
@@ -47,7 +46,7 @@ same-forbidden s (ClearLongTerm t) h = refl
 
 -- ---- the table
 
-moved : (early late : Bool) → Moved (cond early 6 (cond late 7 9)) (cond early 6 (cond late 7 0))
+moved : (early late : Bool) → ShortcutAnswers (cond early 6 (cond late 7 9)) (cond early 6 (cond late 7 0))
 moved true late = timeBelowLast
 moved false true = timeAboveMission
 moved false false = accepted
@@ -59,16 +58,7 @@ table-widened s last commands e = record {
   shortcut = λ h. rw (h .state, h .request) (moved (timeOf e <ms last) (missionTime <ms timeOf e));
 }
 
--- where 6 and 7 leave a call, their conditions are false
-timely : {last t : Milliseconds} → InTime last t → ((t <ms last) ≡ false) × ((missionTime <ms t) ≡ false)
-timely h = (le-ltb _ _ (h .notBelowLast), le-ltb _ _ (h .notAboveMission))
-
--- 0, on the added request
-accepts : (s : State) (last : Milliseconds) (commands : ℕ) (e : Event) → Shortcut s e → InTime last (timeOf e) → refusal s last commands e ≡ 0
-unfolding refusal
-accepts s last commands e is h = rw (is .state, is .request, timely h .0, timely h .1) refl
-
--- and what document 01's map lets through, the wider one lets through
+-- what document 01's table accepts, the table accepts
 never-accepted : (a b c : Bool) → _≡_ {A = ℕ} (cond a 6 (cond b 7 (cond c 8 9))) 0 → ⊥
 never-accepted true b c z = omega (arith, z)
 never-accepted false true c z = omega (arith, z)
@@ -106,7 +96,7 @@ only-forbidden Maintenance ToDormant p h = absurd (true≢false (sym h))
 only-forbidden Maintenance ToOperational p h = absurd (true≢false (sym h))
 only-forbidden Maintenance ToMaintenance p h = absurd (true≢false (sym h))
 
-is-forbidden : (s : State) (e : Event) → isWrongPower s e ≡ false → isForbiddenBy requestAllowed s e ≡ true → Requests Dormant ToMaintenance s e
+is-forbidden : (s : State) (e : Event) → isWrongPower s e ≡ false → isForbiddenBy requestAllowed s e ≡ true → IsRequest Dormant ToMaintenance s e
 is-forbidden s (StateRequest t q) p h = let is = only-forbidden s q p h in record { state = is .0; request = ap (StateRequest t) (is .1) }
 is-forbidden s (Measurement t r) p h = absurd (true≢false (sym h))
 is-forbidden s (PowerOn t) p h = absurd (true≢false (sym h))
@@ -116,24 +106,28 @@ is-forbidden s (BattleOverride t on) p h = absurd (true≢false (sym h))
 is-forbidden s (ClearLongTerm t) p h = absurd (true≢false (sym h))
 
 table-nine : (s : State) (last : Milliseconds) (commands : ℕ) (e : Event)
-    → (refusal s last commands e ≡ 9) ↔ (Requests Dormant ToMaintenance s e × InTime last (timeOf e))
+    → (refusal s last commands e ≡ 9) ↔ (IsRequest Dormant ToMaintenance s e × InTime last (timeOf e))
 unfolding refusal
 table-nine s last commands e = (of-nine, nine-of)
   where
-    of-nine : refusalBy requestAllowed s last commands e ≡ 9 → Requests Dormant ToMaintenance s e × InTime last (timeOf e)
+    of-nine : refusalBy requestAllowed s last commands e ≡ 9 → IsRequest Dormant ToMaintenance s e × InTime last (timeOf e)
     of-nine h =
         let (early, late, off, forbidden) =
         first-nine (timeOf e <ms last) (missionTime <ms timeOf e) (isWrongPower s e) (isForbiddenBy requestAllowed s e) (isForbiddenOther s commands e) h in
         (is-forbidden s e off forbidden, record { notBelowLast = ltb-false _ _ early; notAboveMission = ltb-false _ _ late })
 
-    nine-of : Requests Dormant ToMaintenance s e × InTime last (timeOf e) → refusalBy requestAllowed s last commands e ≡ 9
-    nine-of (is, h) = rw (is .state, is .request, timely h .0, timely h .1) refl
+    nine-of : IsRequest Dormant ToMaintenance s e × InTime last (timeOf e) → refusalBy requestAllowed s last commands e ≡ 9
+    nine-of (is, h) = rw (is .state, is .request, neither-6-nor-7 h .0, neither-6-nor-7 h .1) refl
 
 -- ---- of every engine whose answers are the table's
 
 module _ (call : OneCall) (claims : OnEveryRecord call) where
-  pub shortcut-accepted : ShortcutAccepted call
-  shortcut-accepted before e answer after called sound is h = claims before e answer after called .byTable sound ∙ accepts _ _ _ e is h
+  -- the answer that ShortcutAccepted asks for
+  pub shortcut-gets-0 : (before : Record) (e : Event) (answer : ℕ) (after : Record) → call before e answer after
+      → Sound before → Shortcut (stateOf before) e → InTime (before .live .last) (timeOf e) → answer ≡ 0
+  shortcut-gets-0 before e answer after called sound is h =
+      claims before e answer after called .byTable sound
+      ∙ rw (is .state, is .request) (request-accepted Maintenance (before .live .last) (before .live .tally .commands) (timeOf e) ToDormant refl refl h)
 
   pub still-nine : StillNine call
   still-nine before e answer after called sound =
@@ -180,19 +174,24 @@ module _ {A : Type 0} (number : A → Event → ℕ) (next : A → Event → A) 
             let back : between ≡ x = a₁ ∙ ap (λ (k : ℕ). ifAccepted k (next x toOperational) x) z in
             record { first = n₁ ∙ same ∙ sym n; second = n₂ ∙ rw back (sym n); left = rw (a₂, back) (sym a) }
 
+-- by the table the first gets the number of the one
+pub same-refusal : (s : State) (last : Milliseconds) (commands : ℕ) (t : Milliseconds) → s ≡ Maintenance
+    → refusal s last commands (StateRequest t ToOperational) ≡ refusal s last commands (StateRequest t ToDormant)
+unfolding refusal
+same-refusal s last commands t m = rw m refl
+
+-- and where it is accepted, its time is the last one, and the second is in time
+pub second-accepted : (s : State) (last : Milliseconds) (commands : ℕ) (t : Milliseconds) → refusal s last commands (StateRequest t ToOperational) ≡ 0
+    → refusal Operational t commands (StateRequest t ToDormant) ≡ 0
+second-accepted s last commands t z =
+    let h = in-time s last commands (StateRequest t ToOperational) z in
+    request-accepted Operational t commands t ToDormant refl refl (record { notBelowLast = omega arith; notAboveMission = h .notAboveMission })
+
 -- ---- the ledger
 
 pub accepted-in-two : AcceptedInTwo
 accepted-in-two l m t = rw m refl
 
--- where the first of the two is accepted, its time is the last, and the second is in time
-then-accepted : (early late : Bool) (t : Milliseconds) → (missionTime <ms t) ≡ late → _≡_ {A = ℕ} (cond early 6 (cond late 7 0)) 0
-    → _≡_ {A = ℕ} (cond (t <ms t) 6 (cond (missionTime <ms t) 7 0)) 0
-then-accepted true late t k z = absurd (omega (arith, z))
-then-accepted false true t k z = absurd (omega (arith, z))
-then-accepted false false t k z = rw (le-ltb (t .0) (t .0) (omega arith), k) refl
-
 pub entered-in-two : TwoSteps (λ l. l .state) Enters
-unfolding refusal
 entered-in-two l m t =
-    in-two refused accept l t (rw m refl) (λ z. then-accepted (t <ms l .last) (missionTime <ms t) t refl (rw m at z)) (accepted-in-two l m t)
+    in-two refused accept l t (same-refusal (l .state) (l .last) (l .commands) t m) (second-accepted (l .state) (l .last) (l .commands) t) (accepted-in-two l m t)

@@ -11,6 +11,7 @@ use lib.Count.{ones}
 use lib.Dec.{T, T-not}
 use lib.ListN.{length, getD}
 use Rattle.rules.specs.declared.states.Contactor.{Contactor}
+use Rattle.rules.specs.declared.states.State.{State}
 use Rattle.rules.specs.declared.states.State.the-variants.{Unpowered, Dormant, Operational, Maintenance}
 use Rattle.rules.specs.declared.calls.Command.the-variants.{Automated}
 use Rattle.rules.specs.declared.calls.Request.the-variants.{Dormant as ToDormant}
@@ -29,8 +30,8 @@ use Rattle.rules.specs.Lists.{Each, none, _and_}
 use Rattle.rules.specs.Alike.{Alike, none as noCalls, same, switched}
 use Rattle.rules.specs.Soundness.{Sound}
 use Rattle.rules.specs.Shared.{shownBy}
-use Rattle.rules.specs.Claims.{typeOr1, Engine, AfterList, AfterEveryList, TwoRuns, AnyTwoLists, Starter, OfEveryType, OnEveryRecord}
-use Rattle.rules.specs.StateMap.{OneCall, ByWiderMap}
+use Rattle.rules.specs.Claims.{typeOr1, Engine, AfterList, AfterEveryList, TwoRuns, AnyTwoLists, Starter, OfEveryType, OneCall, OnEveryRecord}
+use Rattle.rules.specs.StateMap.{ByWiderMap}
 use Rattle.rules.specs.Worthless.{Seen, cellsOf, toDormant, toOperational, toMaintenance, lowCellsUnder, lowCellTrip, Row, Shows, rows}
 use Rattle.rules.proofs.Lists.{at-index}
 use Rattle.rules.proofs.Decide.{is-tripped}
@@ -179,7 +180,7 @@ module _
 
 -- ---- one call: a record of type 4, and an unpowered one
 
-module _ (call : Record → Event → ℕ → Record → Type 0) (claims : OnEveryRecord call) (before : Record) (answer : ℕ) (after : Record) where
+module _ (call : OneCall) (claims : OnEveryRecord call) (before : Record) (answer : ℕ) (after : Record) where
   abbrev Called : Type 0
   Called = call before (cellsOf 0 3_300) answer after
 
@@ -201,19 +202,30 @@ module _ (call : Record → Event → ℕ → Record → Type 0) (claims : OnEve
 
 -- ---- document 02, S-3: one call at time 0 on a sound record at last time 0
 
-module _ (call : OneCall) (has : Record → Contactor → Type 0) (claims : ByWiderMap call has) (before : Record) (s : Sound before) (start : before .live .last ≡ ms 0) where
-  timely : (e : Event) → timeOf e ≡ ms 0 → InTime (before .live .last) (timeOf e)
-  timely e at = rw (start, at) (record { notBelowLast = omega arith; notAboveMission = omega arith })
+module _ (r : Record) (from : State) (is : r .live .control .state ≡ from) (enters : isChange from ToDormant ≡ true) where
+  reset : cond (isChange (r .live .control .state) ToDormant) Automated (r .live .control .command) ≡ Automated
+  reset = rw (is, enters) refl
 
-  pub shortcut-gets-0 : (answer : ℕ) (after : Record) → call before toDormant answer after → before .live .control .state ≡ Maintenance → answer ≡ 0
+  off : not (entersDormant (r .live .control .state) ToDormant) && r .live .control .overriding ≡ false
+  off = rw (is, enters) refl
+
+module _ (call : OneCall) (has : Record → Contactor → Type 0) (claims : ByWiderMap call has) (before : Record) (s : Sound before) (start : before .live .last ≡ ms 0) where
+  at-0 : (e : Event) → timeOf e ≡ ms 0 → InTime (before .live .last) (timeOf e)
+  at-0 e at = rw (start, at) (record { notBelowLast = omega arith; notAboveMission = omega arith })
+
+  -- the shortcut: 0, Automated and override off
+  pub shortcut-gets-0 : (answer : ℕ) (after : Record) → call before toDormant answer after → before .live .control .state ≡ Maintenance
+      → (answer ≡ 0) × (after .live .control .command ≡ Automated) × (after .live .control .overriding ≡ false)
   shortcut-gets-0 answer after called is =
-      claims .shortcutAccepted before toDormant answer after called s (record { state = is; request = refl }) (timely toDormant refl)
+      let (accepted, left) = claims .shortcutAccepted before toDormant answer after called s (record { state = is; request = refl }) (at-0 toDormant refl) in
+      (accepted, left .command ∙ reset before Maintenance is refl, left .override ∙ off before Maintenance is refl)
 
   -- once accepted, it opens the contactor
-  pub shortcut-is-open : (answer : ℕ) (after : Record) (contactor : Contactor) → call before toDormant answer after → has after contactor
+  pub shortcut-leaves-it-open : (answer : ℕ) (after : Record) (contactor : Contactor) → call before toDormant answer after → has after contactor
       → before .live .control .state ≡ Maintenance → contactorNumber contactor ≡ 0
-  shortcut-is-open answer after contactor called shown is =
-      claims .shortcutOpens before toDormant answer after contactor called shown (record { state = is; request = refl }) (shortcut-gets-0 answer after called is)
+  shortcut-leaves-it-open answer after contactor called shown is =
+      claims .shortcutOpens before toDormant answer after contactor called shown (record { state = is; request = refl })
+      (shortcut-gets-0 answer after called is .0)
 
   -- the two get 0 as well, and leave one record
   pub two-get-0 : (answer : ℕ) (after : Record) → call before toDormant answer after → before .live .control .state ≡ Maintenance
@@ -222,17 +234,17 @@ module _ (call : OneCall) (has : Record → Contactor → Type 0) (claims : ByWi
       → (answer₁ ≡ 0) × (answer₂ ≡ 0) × (after₂ ≡ after)
   two-get-0 answer after called is answer₁ between called₁ answer₂ after₂ called₂ =
       let same = claims .twoSteps before is (ms 0) answer after called answer₁ between called₁ answer₂ after₂ called₂ in
-      let zero = shortcut-gets-0 answer after called is in
+      let zero = shortcut-gets-0 answer after called is .0 in
       (same .first ∙ zero, same .second ∙ zero, same .left)
 
   pub dormant-keeps-9 : (answer : ℕ) (after : Record) → call before toMaintenance answer after → before .live .control .state ≡ Dormant → answer ≡ 9
   dormant-keeps-9 answer after called is =
       claims .stillNine before toMaintenance answer after called s .1
-      (record { request = record { state = is; request = refl }; time = timely toMaintenance refl })
+      (record { request = record { state = is; request = refl }; time = at-0 toMaintenance refl })
 
-  -- and none else: Operational goes to Maintenance
-  pub operational-gets-0 : (answer : ℕ) (after : Record) → call before toMaintenance answer after → before .live .control .state ≡ Operational → answer ≡ 0
-  operational-gets-0 answer after called is =
+  -- and no other request gets it: Operational goes to Maintenance
+  pub operational-to-maintenance-gets-0 : (answer : ℕ) (after : Record) → call before toMaintenance answer after → before .live .control .state ≡ Operational → answer ≡ 0
+  operational-to-maintenance-gets-0 answer after called is =
       claims .answersWidened before toMaintenance answer after called s .others (λ other. differ (sym is ∙ other .state)) ∙ rw (is, start) refl
     where
       differ : ¬ (Operational ≡ Maintenance)
@@ -251,16 +263,10 @@ module _ (call : OneCall) (has : Record → Contactor → Type 0) (claims : ByWi
       × (after .stores ≡ before .stores)
   operational-to-dormant answer after called is =
       let (accepted, left) = claims .asBefore before (ms 0) ToDormant answer after called s (rw (is, start) refl) in
-      (accepted, left .state, left .command ∙ reset, left .override ∙ off, left .last, left .battery, left .watch, left .tally, left .stores)
-    where
-      reset : cond (isChange (before .live .control .state) ToDormant) Automated (before .live .control .command) ≡ Automated
-      reset = rw is refl
-
-      off : not (entersDormant (before .live .control .state) ToDormant) && before .live .control .overriding ≡ false
-      off = rw is refl
+      (accepted, left .state, left .command ∙ reset before Operational is refl, left .override ∙ off before Operational is refl, left .last, left .battery, left .watch, left .tally, left .stores)
 
 -- "number 5 never arises": on what a list leaves
-pub never-5 : (engine : Engine) → AfterEveryList engine → (call : Record → Event → ℕ → Record → Type 0) → OnEveryRecord call
+pub never-5 : (engine : Engine) → AfterEveryList engine → (call : OneCall) → OnEveryRecord call
     → (battery : ℕ) (calls : List Event) (given : List ℕ) (before : Record) (contactor : Contactor) → engine battery calls given before contactor
     → (e : Event) (answer : ℕ) (after : Record) → call before e answer after → answer ≢ 5
 never-5 engine lists call calls-owe battery calls given before contactor run e answer after called is =

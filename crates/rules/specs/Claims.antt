@@ -103,6 +103,10 @@ OfEveryType starter = (battery answer : ℕ) (start : Record) → starter batter
 
 -- ---- demand 1, for a call: on any record, reached by a list or not
 
+-- What an engine may do with one call on a record: the number that it answers, and the record that it leaves.
+abbrev pub OneCall : Type 1
+OneCall = (before : Record) → (e : Event) → (answer : ℕ) → (after : Record) → Type 0
+
 pub record Refused (before : Record) (e : Event) (answer : ℕ) (after : Record) : Type 0 where
   -- "The answer to every call .. is a result or one refusal number of document 01"
   pub listed : CallAnswer answer
@@ -114,6 +118,6 @@ pub record Refused (before : Record) (e : Event) (answer : ℕ) (after : Record)
   -- "a refused call alters neither the record nor a lent byte"
   pub unchanged : answer ≢ 0 → after ≡ before
 
-abbrev pub OnEveryRecord : (Record → Event → ℕ → Record → Type 0) → Type 0
+abbrev pub OnEveryRecord : OneCall → Type 0
 OnEveryRecord call =
     (before : Record) (e : Event) (answer : ℕ) (after : Record) → call before e answer after → Refused before e answer after

@@ -76,7 +76,7 @@ refusalBy map s last commands e = firstOf (callChecksBy map s last commands e)
 unfoldable pub refusal : State → Milliseconds → ℕ → Event → ℕ
 refusal s last commands e = refusalBy requestAllowed s last commands e
 
--- what 6 and 7 leave: a time that is not below the last accepted time and not above 345,600,000 ms
+-- a time that neither 6 nor 7 refuses: not below the last accepted time, and not above 345,600,000 ms
 pub record InTime (last t : Milliseconds) : Type 0 where
   pub notBelowLast : last .0 ≤ t .0
   pub notAboveMission : t .0 ≤ missionTime .0

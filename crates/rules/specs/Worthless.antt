@@ -1,5 +1,5 @@
 -- Document 01, "Worthless engines" and "Bench mistakes seen", as rows of one table: short lists, and what an engine that meets the claims
--- shows after each; a row or two for a request of document 02. What is worthless or mistaken shows something else. proofs/Worthless has one
+-- shows after each; and two rows for document 02, S-3. What is worthless or mistaken shows something else. proofs/Worthless has one
 -- theorem over all rows.
 use Prim.Native.Nat.{ℕ, zero, suc, _+_}
 use mathlib.Core.Path.{_≡_}
@@ -159,7 +159,7 @@ Shows engine r = (given : List ℕ) (after : Record) (contactor : Contactor) →
 -- "counting values between beyond and within as within"
 -- "keeping the newest 64"
 -- beside number 1, a record of type 1
--- document 02, S-3: from Maintenance, and to Dormant from there, which ends Force closed and override
+-- document 02, S-3: Maintenance with Force closed and override on; then straight to Dormant, which ends both
 unfoldable pub rows : List Row
 rows =
     row 1 (powerOn 0 ∷ powerLoss 0 ∷ powerOn 7 ∷ []) (answers (0 ∷ 0 ∷ 0 ∷ []) ∷ state 1 ∷ last 7 ∷ [])

@@ -12,21 +12,21 @@ use Rattle.rules.specs.Quantities.{isType}
 use Rattle.rules.specs.Numbers.{stateNumber, commandNumber, overrideNumber, contactorNumber}
 use Rattle.rules.specs.Refusals.{firstOf, freshChecks, CallAnswer.unsound}
 use Rattle.rules.specs.Protections.{rowOf}
-use Rattle.rules.specs.Ledger.{ledger, atFirst, accepted, isTrippedOn}
+use Rattle.rules.specs.Ledger.{ledger, atFirst, ifAccepted, accepted, isTrippedOn}
 use Rattle.rules.specs.Stores.{longTerm, shortTerm}
 use Rattle.rules.specs.Contactor.{Closed, ContactorsDiffer}
 use Rattle.rules.specs.Alike.{Alike}
 use Rattle.rules.specs.Shown.{keptOf}
 use Rattle.rules.specs.Shared.{Shared, shownBy, ruledFor, Agree}
-use Rattle.rules.specs.Claims.{typeOr1, Engine, AfterList, AfterEveryList, TwoRuns, AnyTwoLists, Starter, OfEveryType, Refused, OnEveryRecord}
+use Rattle.rules.specs.Claims.{typeOr1, Engine, AfterList, AfterEveryList, TwoRuns, AnyTwoLists, Starter, OfEveryType, OneCall, Refused, OnEveryRecord}
 use Rattle.rules.proofs.Decide.{is-tripped}
 use Rattle.rules.proofs.Bools.{and-iff, is-true, same-test}
+use Rattle.rules.proofs.CallTable.{table-listed, table-not-5}
 use Rattle.step.specs.Fresh.{freshRecord, fresh}
 use Rattle.step.specs.Sound.{sound}
 use Rattle.step.specs.Refusal.{refusal, refusalLive}
 use Rattle.step.specs.Close.{closes, contactorOf}
 use Rattle.step.specs.Call.{advance, answer, call, run, answers}
-use Rattle.step.proofs.Refusals.{table-listed, table-not-5}
 use Rattle.step.proofs.Sounds.{sound-is, type-is}
 use Rattle.step.proofs.Shows.{Shows, shows-fresh}
 use Rattle.step.proofs.Runs.{shows-sound, shows-run, answers-are, battery-run}
@@ -194,14 +194,18 @@ any-two-lists battery calls₁ calls₂ alike given₁ given₂ after₁ after�
 
 -- ---- one call, on any record
 
-abbrev pub StepCalls : Record → Event → ℕ → Record → Type 0
+abbrev pub StepCalls : OneCall
 StepCalls before e given after = (given ≡ call before e .refusal) × (after ≡ call before e .after)
 
-module _ (before : Record) (e : Event) where
-  number-of : (n : ℕ) → answer n (advance before e) before .refusal ≡ n
-  number-of zero = refl
-  number-of (suc n) = refl
+pub number-is : (n : ℕ) (next before : Record) → answer n next before .refusal ≡ n
+number-is zero next before = refl
+number-is (suc n) next before = refl
 
+pub after-is : (n : ℕ) (next before : Record) → answer n next before .after ≡ ifAccepted n next before
+after-is zero next before = refl
+after-is (suc n) next before = refl
+
+module _ (before : Record) (e : Event) where
   kept : (n : ℕ) → (n ≡ 0 → ⊥) → answer n (advance before e) before .after ≡ before
   kept zero h = absurd (h refl)
   kept (suc n) h = refl
@@ -222,7 +226,7 @@ module _ (before : Record) (e : Event) where
   }
 
   pub refused : Refused before e (call before e .refusal) (call before e .after)
-  refused = rw (number-of (refusal before e)) (of-sound (sound before) refl)
+  refused = rw (number-is (refusal before e) (advance before e) before) (of-sound (sound before) refl)
 
 pub on-every-record : OnEveryRecord StepCalls
 on-every-record before e given after (g, a) = rw (g, a) (refused before e)

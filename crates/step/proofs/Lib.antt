@@ -1,5 +1,4 @@
 pub mod Tracking
-pub mod Refusals
 pub mod Sounds
 pub mod Storing
 pub mod Adding

@@ -20,11 +20,11 @@ use Rattle.rules.specs.Soundness.{Sound, MeasuredBy, KeptInRange}
 use Rattle.rules.proofs.Mask.{mask-13-bits}
 use Rattle.rules.specs.Shown.{keptAt}
 use Rattle.rules.proofs.Bools.{is-true}
+use Rattle.rules.proofs.CallTable.{in-time}
 use Rattle.step.specs.Sound.{sound}
 use Rattle.step.specs.Refusal.{refusal}
 use Rattle.step.specs.Call.{advance, answer, call, run, answers}
 use Rattle.step.proofs.Tracking.{AllBy, tracks-by}
-use Rattle.step.proofs.Refusals.{in-time}
 use Rattle.step.proofs.Sounds.{sound-is}
 use Rattle.step.proofs.Charging.{previousOf, accountTime, account-time, plausible-current}
 use Rattle.step.proofs.Shows.{Shows}

@@ -6,6 +6,7 @@ import benchlog
 import engine_test
 import examples
 import model
+import permitted_test
 import vectors
 from benchlog import clear, command, measurement, override, power_loss, power_on, request
 from engine_test import sensors
@@ -32,9 +33,9 @@ def long_log():
 
 
 def protections(battery):
-    """Document 01's table, a row for each protection (and three for 4: in the warm, and at both ends of the range where L is worked out):
+    """Document 01's table, a row for each protection (and three for 4: in the warm, and at both ends of the range that has rows):
     hold, release, a frame that is beyond, those just not beyond, one within, one just not within."""
-    rating, draw = (90_000, 180_000) if battery == 3 else (60_000, 120_000)
+    draw = 180_000 if battery == 3 else 120_000
 
     def all_cells(mv):
         return dict(cells=mv)
@@ -46,7 +47,7 @@ def protections(battery):
         return dict(cells=[3400] + 7 * [3400 - mv])
 
     def permitted(temperature):
-        most = min(rating, rating * (temperature + 50) ** 2 // 90_000)
+        most = permitted_test.permitted(battery, temperature)
         return (3000, 10_000, flowing(most + 2001, temperature), [flowing(most + 2000, temperature)],
                 flowing(most, temperature), flowing(most + 1, temperature))
 
@@ -134,12 +135,24 @@ SHORTCUTS = {
 }
 
 
+# below 0 °C nothing is permitted: 2,001 mA are beyond 4 (and, above 500, beyond 3), 1 mA is not within 4, which stays tripped, and none is, so
+# that it is released. The contactor is open from the trips on
+def charge_below_0():
+    def frames(start, end, current):
+        return [measurement(t, current=current, temperatures=-1) for t in (start, end)]
+
+    log = START + b"".join(frames(0, 3000, 2001) + frames(3001, 13_001, 1) + frames(13_002, 23_002, 0))
+    lines = "3 0 2 1 00 0 1\n" + "".join(f"{event} 0 2 0 18 0 1\n" for event in range(4, 8)) + "8 0 2 0 08 0 1\n"
+    return log, STARTED + lines + f"end {2001 * 3001 + 10_001} 0 2\n"
+
+
 def logs(folder):
     """Each log's name, its bytes and its text. The model is asked about every one, those whose text is said elsewhere too."""
     for name, log, text, _ in vectors.logs(folder):
         yield name, log, text
     for name, (log, text) in DAMAGED.items():
         yield name, log, text
+    yield "charge-below-0", *charge_below_0()
     for name, lines in SHORTCUTS.items():
         yield name, benchlog.log(1, *engine_test.LOGS[name]), lines + "end 0 0 0\n"
     for name, log in ("long", long_log()), ("limits-1", limits(1)), ("limits-3", limits(3)), ("border", border_log()):

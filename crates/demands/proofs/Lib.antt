@@ -5,3 +5,4 @@ pub mod Exports
 pub mod Second
 pub mod Third
 pub mod StateMap
+pub mod ChargeRows

@@ -49,11 +49,15 @@ extremes r = record {
 
 -- ---- the permitted charge current
 
+-- "C × (c + 50)² ÷ 90,000 rounded down", on figures, C and what it gives in mA and c in tenths of a degree, since it multiplies them
+abbrev pub curve : (rating tenths : ℕ) → ℕ
+curve rating tenths = rating * ((tenths + 50) * (tenths + 50)) / 90_000
+
 -- "L is the permitted charge current at coldest temperature c: 0 if c < 0; C × (c + 50)² ÷ 90,000 rounded down if 0 ≤ c < 250;
--- otherwise C". The formula is on figures, C and L in mA and c in tenths of a degree, since it multiplies them.
+-- otherwise C"
 abbrev pub permittedAt : ℕ → ℤ → ℕ
 permittedAt rating (negsuc c) = 0
-permittedAt rating (pos c) = cond (ltb c 250) (rating * ((c + 50) * (c + 50)) / 90_000) rating
+permittedAt rating (pos c) = cond (ltb c 250) (curve rating c) rating
 
 unfoldable pub permitted : ℕ → DeciCelsius → Milliamperes
 permitted battery coldest = mA (pos (permittedAt (natAbs (chargeRating battery .0)) (coldest .0)))

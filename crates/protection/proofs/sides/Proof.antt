@@ -1,10 +1,13 @@
-use Rattle.protection.proofs.Laws.{permitted-by, sides-are}
+use Rattle.protection.proofs.Laws.{bound-small, sides-are}
 use borrow.Author.Needs.{needs}
 use Rattle.protection.proofs.sides.Statement.{statement}
 use Rattle.protection.proofs.sides.Tie as tie
 
 over-charge-requires : tie.Need-over-charge-requires
-over-charge-requires c κs = rw (c .before .before .before .before .before .before .permitted .ensures) (permitted-by _ _)
+over-charge-requires c κs =
+    let start = c .before .before .before .before .before .before .before .before .args in
+    let coldest = c .before .before .before .before .before .before .before .extremes .result .coldest in
+    bound-small (start .battery) coldest (start .r .current) _ (c .before .before .before .before .before .before .charge-bound .ensures)
 
 returns : tie.Need-returns
 returns c =
@@ -19,7 +22,7 @@ returns c =
       c .over-voltage2 .ensures,
     )
     (sides-are (c .before .before .before .before .before .before .before .before .before .before .before .before .args .battery) (c .before .before .before .before .before .before .before .before .before .before .before .before .args .r) _ (c .before .before .before .before .before .before .before .before .before .before .before .extremes .ensures) _ (c .before .before .before .before .before .before .before .before .spread .ensures) _ _
-    (c .before .before .before .before .before .before .before .before .before .before .permitted .ensures) (c .before .before .before .before .before .before .before .before .before .discharge-limit .ensures))
+    (c .before .before .before .before .before .before .before .before .before .before .charge-bound .ensures) (c .before .before .before .before .before .before .before .before .before .discharge-limit .ensures))
 
 pub sides-spec : {M : Type 1} → statement M
 sides-spec =

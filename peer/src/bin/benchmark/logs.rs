@@ -1,4 +1,4 @@
-//! Three kinds of logs of any length, within the mission time.
+//! Four kinds of logs of any length, within the mission time.
 
 use peer::generate::Rng;
 use peer::wire::{Frame, Log};
@@ -14,9 +14,11 @@ pub enum Kind {
     Mixed,
     /// A trip every few frames.
     Trips,
+    /// Measurements that charge near 10 °C, below what is permitted there.
+    Charging,
 }
 
-pub const KINDS: [Kind; 3] = [Kind::Quiet, Kind::Mixed, Kind::Trips];
+pub const KINDS: [Kind; 4] = [Kind::Quiet, Kind::Mixed, Kind::Trips, Kind::Charging];
 
 /// Milliseconds between frames: 10^7 of them stay below the mission time.
 const STEP: u32 = 20;
@@ -46,10 +48,21 @@ pub fn write(kind: Kind, events: u64, path: &Path) -> io::Result<()> {
             Kind::Quiet => maker.frame(STEP, |frame| frame)?,
             Kind::Mixed => maker.bench_hour(round)?,
             Kind::Trips => maker.trip_round(round)?,
+            Kind::Charging => maker.frame(STEP, charging)?,
         }
         round += 1;
     }
     maker.file.write_all(&maker.log.bytes)
+}
+
+/// The frame 12 °C colder, so from 10 °C on, where 15 A are permitted, and
+/// charging with 9 A to 14 A.
+fn charging(frame: Frame) -> Frame {
+    Frame {
+        current: 9_000 + frame.current.rem_euclid(5_000),
+        temperatures: frame.temperatures.map(|tenths| tenths - 120),
+        ..frame
+    }
 }
 
 impl Maker {
@@ -183,6 +196,11 @@ mod tests {
     #[test]
     fn quiet_trips_nothing() {
         assert_eq!(counts(Kind::Quiet, 20_000), (20_000, 0, 0));
+    }
+
+    #[test]
+    fn charging_trips_nothing() {
+        assert_eq!(counts(Kind::Charging, 20_000), (20_000, 0, 0));
     }
 
     #[test]

@@ -66,7 +66,7 @@ fn times(programs: &[Program], log: &Path, repetitions: usize) -> io::Result<Vec
     Ok(runs.into_iter().map(Times::of).collect())
 }
 
-const HEADING: &str = "log       events prog.    ms median     events/s \
+const HEADING: &str = "log         events prog.    ms median     events/s \
     ns/event  ns best  sixt/fast     best  peak kB";
 
 fn row(kind: &str, events: u64, name: &str, time: Times, fast: Times, peak: u64) {
@@ -79,7 +79,7 @@ fn row(kind: &str, events: u64, name: &str, time: Times, fast: Times, peak: u64)
         _ => "-".to_string(),
     };
     println!(
-        "{kind:<6} {events:>9} {name:<5} {:>11.3} {:>12.0} {:>8} {:>8} {:>10} {:>8} {peak:>8}",
+        "{kind:<8} {events:>9} {name:<5} {:>11.3} {:>12.0} {:>8} {:>8} {:>10} {:>8} {peak:>8}",
         time.median.as_secs_f64() * 1e3,
         events as f64 / time.median.as_secs_f64(),
         per_event(time.median),

@@ -7,6 +7,7 @@ are no type, at every temperature that has a row, at the tenth before the first 
 greatest."""
 import pathlib
 import re
+import signal
 import sys
 
 ROWS = pathlib.Path(__file__).resolve().parent.parent / "crates/permitted/src/rows.rt"
@@ -43,6 +44,7 @@ def coded(rating):
 
 
 def main():
+    signal.signal(signal.SIGPIPE, signal.SIG_DFL)  # a closed pipe ends it as it ends cat
     if sys.argv[1:] not in (["60000"], ["90000"]):
         sys.exit(__doc__.split("\n\n")[0])
     rating = int(sys.argv[1])

@@ -48,7 +48,7 @@ same-side l i = by-test (i ≤mA mA (pos 0)) refl
     by-test true e = at-most-0 0 (i .0) e ∙ sym (at-most-0 l (i .0) e)
     by-test false e = refl
 
-charge-side : (battery : ℕ) (coldest : DeciCelsius) (i : Milliamperes)
+pub charge-side : (battery : ℕ) (coldest : DeciCelsius) (i : Milliamperes)
     → chargeSide (chargeBound (permitted battery coldest) i) i ≡ chargeSide (permitted battery coldest) i
 unfolding permitted
 charge-side battery coldest i = same-side (permittedAt (natAbs (chargeRating battery .0)) (coldest .0)) i

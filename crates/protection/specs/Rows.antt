@@ -10,7 +10,8 @@ use Rattle.rules.specs.Protections.{rowOf}
 use Rattle.rules.specs.Lists.{tabulate}
 use Rattle.protection.specs.declared.Side.{Side}
 
--- what a current is held against as a charge: what is permitted, and 0 for a current of at most 0
+-- what the code holds a current against as a charge: what is permitted, and 0 for a current of at most 0. A means, and no rule: that it
+-- leaves the row on charge overcurrent as it is, is protection!Laws.charge-side.
 abbrev pub chargeBound : Milliamperes → Milliamperes → Milliamperes
 chargeBound l i = cond (i ≤mA mA (pos 0)) (mA (pos 0)) l
 

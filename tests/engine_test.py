@@ -58,6 +58,40 @@ STEPS = {
     "steps_refused": [power_on(0), measurement(0), command(0, 3), power_loss(0)],
 }
 
+
+def neighbours(*currents, apart=1):
+    """Plausible measurements of these currents, from 0 on."""
+    return [measurement(apart * k, current=i) for k, i in enumerate(currents)]
+
+
+# document 02, S-5: measurements, and what they add to charged and to discharged
+CHARGES = {
+    "charge_marked": (neighbours(60_000, 60_000, apart=1000), 60_000_000, 0),
+    "charge_mean": (neighbours(60_000, -20_000, apart=1000), 20_000_000, 0),
+    "charge_mean_negated": (neighbours(-60_000, 20_000, apart=1000), 0, 20_000_000),
+    # the last current counts too, and the first by its half alone
+    "charge_to_0": (neighbours(60_000, 0, apart=1000), 30_000_000, 0),
+    "charge_from_0": (neighbours(0, 60_000, apart=1000), 30_000_000, 0),
+    # halved towards zero, and each pair by itself: 3 adds 1, as -3 does; three pairs of 3 add 3 and not 4
+    "charge_sum_1": (neighbours(-1, 2), 0, 0),
+    "charge_sum_minus_1": (neighbours(1, -2), 0, 0),
+    "charge_sum_3": (neighbours(1, 2), 1, 0),
+    "charge_sum_minus_3": (neighbours(-1, -2), 0, 1),
+    "charge_each_pair": (neighbours(1, 2, 1, 2), 3, 0),
+    "discharge_each_pair": (neighbours(-1, -2, -1, -2), 0, 3),
+    # 3 mA for 3 ms: the product is halved, 9 to 4, not the sum
+    "charge_odd_sum": (neighbours(1, 2, apart=3), 4, 0),
+    "charge_cancelled": (neighbours(50_000, -50_000, apart=1000), 0, 0),
+    "charge_at_one_time": (neighbours(60_000, 60_000, apart=0), 0, 0),
+    # no neighbours: one of the two is implausible, or there is a power loss between them. A refused call parts nothing
+    "charge_to_implausible": ([measurement(0, current=60_000), measurement(500, 5001, 60_000), measurement(1000, current=60_000)], 0, 0),
+    "charge_over_power_loss": ([measurement(0, current=60_000), power_loss(500), power_on(500), measurement(1000, current=60_000)], 0, 0),
+    "charge_over_refused": ([measurement(1000, current=60_000), measurement(999, current=-60_000), measurement(2000, current=60_000)], 60_000_000, 0),
+    # the greatest current for the whole mission: 2,000,000 × 345,600,000, which a sound record may hold. The power loss is accepted, not refused with 5
+    "charge_for_the_mission": ([*neighbours(2_000_000, 2_000_000, apart=345_600_000), power_loss(345_600_000)], 691_200_000_000_000, 0),
+    "discharge_for_the_mission": ([*neighbours(-2_000_000, -2_000_000, apart=345_600_000), power_loss(345_600_000)], 0, 691_200_000_000_000),
+}
+
 LOGS = {
     **STEPS,
     # 70 trips: the first 64 stay; a clear leaves none
@@ -94,6 +128,7 @@ LOGS = {
     "shortcut_early": [*FORCED, measurement(10), request(9, 1)],
     "shortcut_late": [*FORCED, request(345_600_001, 1)],
     "shortcut_unpowered": [*FORCED, power_loss(10), request(10, 1)],
+    **{name: [power_on(0), request(0, 2), *events] for name, (events, _, _) in CHARGES.items()},
     **{name: events for name, _, events in failed()},
 }
 
@@ -109,6 +144,7 @@ SHOWN = {
     "shortcut_early": "state 3, command 2, override 1, last 10, contactor 1",
     "shortcut_late": "state 3, command 2, override 1, last 0, contactor 1",
     "shortcut_unpowered": "state 0, command 0, override 0, last 10, contactor 0",
+    **{name: f"charged {charged}, discharged {discharged}" for name, (_, charged, discharged) in CHARGES.items()},
 }
 SAME = {"shortcut_in_two": "shortcut", "shortcut_automated_in_two": "shortcut_automated"}  # logs that leave one record
 

@@ -143,7 +143,26 @@ def charge_below_0():
 
     log = START + b"".join(frames(0, 3000, 2001) + frames(3001, 13_001, 1) + frames(13_002, 23_002, 0))
     lines = "3 0 2 1 00 0 1\n" + "".join(f"{event} 0 2 0 18 0 1\n" for event in range(4, 8)) + "8 0 2 0 08 0 1\n"
-    return log, STARTED + lines + f"end {2001 * 3001 + 10_001} 0 2\n"
+    charged = 2001 * 3000 + (2001 + 1) // 2 + 1 * 10_000 + (1 + 0) // 2  # by the mean current: at 2,001 mA, from there to 1 mA, at 1 mA, to none
+    return log, STARTED + lines + f"end {charged} 0 2\n"
+
+
+# document 02, S-5: the lines of those logs of CHARGES whose measurements aren't all plausible and accepted, or trip a protection (4; 5, then 6),
+# and the trips
+CHARGE_LINES = {
+    "charge_to_implausible": ("3 0 2 1 00 0 1\n4 0 2 0 00 0 2\n5 0 2 1 00 0 1\n", 0),
+    "charge_over_power_loss": ("3 0 2 1 00 0 1\n4 0 0 0 00 0 0\n5 0 1 0 00 0 0\n6 0 1 0 00 0 1\n", 0),
+    "charge_over_refused": ("3 0 2 1 00 0 1\n4 6 2 1 00 0 1\n5 0 2 1 00 0 1\n", 0),
+    "charge_for_the_mission": ("3 0 2 1 00 0 1\n4 0 2 0 10 0 1\n5 0 0 0 00 0 0\n", 1),
+    "discharge_for_the_mission": ("3 0 2 0 20 0 1\n4 0 2 0 60 0 1\n5 0 0 0 00 0 0\n", 2),
+}
+
+
+def charges():
+    for name, (events, charged, discharged) in engine_test.CHARGES.items():
+        closed = "".join(f"{k} 0 2 1 00 0 1\n" for k in range(3, 3 + len(events)))
+        lines, trips = CHARGE_LINES.get(name, (closed, 0))
+        yield name, benchlog.log(1, *engine_test.LOGS[name]), f"{STARTED}{lines}end {charged} {discharged} {trips}\n"
 
 
 def logs(folder):
@@ -155,6 +174,7 @@ def logs(folder):
     yield "charge-below-0", *charge_below_0()
     for name, lines in SHORTCUTS.items():
         yield name, benchlog.log(1, *engine_test.LOGS[name]), lines + "end 0 0 0\n"
+    yield from charges()
     for name, log in ("long", long_log()), ("limits-1", limits(1)), ("limits-3", limits(3)), ("border", border_log()):
         yield name, log, model.text(log)
     for name, log, text, _ in alike.checked():

@@ -1,7 +1,7 @@
 """The vectors: logs with the answers of another reading of the papers. `NAME.out` and `NAME.view` of the twelve are document 01's; `02/older.txt`
 has the lines of theirs that a request of document 02 changes, and the folder `02/S-N` the logs of request S-N."""
 
-LANDED = ["S-3"]  # the requests of document 02 that are in force
+LANDED = ["S-3", "S-5"]  # the requests of document 02 that are in force
 
 
 def is_table(line):

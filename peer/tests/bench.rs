@@ -69,35 +69,21 @@ fn discharge_holds_30_500() {
     assert!(tripped(&run(30_500), 6));
 }
 
+/// As S-5 has it: 60,000 mA at both times.
 #[test]
 fn charged_account() {
     let edges = Frame {
         cells: [500; 8],
-        current: -2_000_000,
+        current: 60_000,
         temperatures: [880, -540, 0, 0],
     };
-    for later in [Frame::NOMINAL, amps(-5), edges] {
+    for later in [amps(60_000), edges] {
         let log = frames(1, &[(0, amps(60_000)), (1_000, later)]);
         assert_eq!(view(&log).charged, 60_000_000);
-        assert!(text(&log).contains("\nend 60000000 0 "));
+        assert!(text(&log).ends_with("\nend 60000000 0 0\n"));
     }
     let broken = frames(1, &[(0, amps(60_000)), (1_000, implausible())]);
     assert_eq!(view(&broken).charged, 0);
-}
-
-#[test]
-fn discharged_account_is_the_negation() {
-    let log = frames(
-        1,
-        &[
-            (0, amps(-7)),
-            (1_000, amps(3)),
-            (1_001, amps(0)),
-            (9_000, amps(9)),
-        ],
-    );
-    let view = view(&log);
-    assert_eq!((view.charged, view.discharged), (3, 7_000));
 }
 
 #[test]

@@ -29,14 +29,20 @@ fn parked(seed: u64) -> Vec<View> {
     pairs.map(|pair| pair[0].clone()).collect()
 }
 
-#[test]
-fn random_logs_park_from_maintenance() {
-    let records: Vec<View> = (0..200).flat_map(parked).collect();
-    let count = |test: fn(&View) -> bool| records.iter().filter(|view| test(view)).count();
+/// What occurred in the logs of the seeds below 200.
+fn tally() -> Tally {
     let mut tally = Tally::default();
     for seed in 0..200 {
         tally.add(&model::tally(&generate::log(seed, 120)));
     }
+    tally
+}
+
+#[test]
+fn random_logs_park_from_maintenance() {
+    let records: Vec<View> = (0..200).flat_map(parked).collect();
+    let count = |test: fn(&View) -> bool| records.iter().filter(|view| test(view)).count();
+    let tally = tally();
     assert_eq!(tally.parkings[0], records.len() as u64);
     assert!(count(|view| view.command == 2) > 100);
     assert!(count(|view| view.override_on) > 100);
@@ -44,6 +50,13 @@ fn random_logs_park_from_maintenance() {
     assert!(count(|view| view.contactor) > 50);
     assert!(tally.parkings[6] > 20 && tally.parkings[7] > 20);
     assert!(tally.refusals[9] > 100, "Dormant to Maintenance");
+}
+
+#[test]
+fn random_logs_try_the_halving() {
+    let Tally { odd, cancelled, .. } = tally();
+    assert!(odd.iter().all(|&count| count > 500), "{odd:?}");
+    assert!(cancelled > 200, "{cancelled}");
 }
 
 /// 20,001 lines: several times the output buffer.

@@ -1,32 +1,49 @@
-// What a current, held for a time, adds to either account.
+// What two neighbouring currents, a time apart, add to either account: the charge of their mean.
 ghost use mathlib.Core.Path.{_≡_};
-ghost use Prim.Native.Nat.{_≤_};
-ghost use Rattle.rules.specs.Accounts.{positiveTimes, negativeTimes};
+ghost use Prim.Native.Nat.{_≤_, _*_, _/_};
+ghost use lib.IntN.{natAbs};
+ghost use Rattle.rules.specs.Quantities.{mAms, sum as sumOf};
+ghost use Rattle.rules.specs.Accounts.{flow, halved, positivePart, negativePart};
 use rules::units::Charge;
 use rules::units::Milliamperes;
 use rules::units::Milliseconds;
 
-// A current that charges, times the time. The bound is for the sum that it joins.
-pub fn inflow(i: Milliamperes, elapsed: Milliseconds) -> Charge
-    ensures is { λ c. ⌜ c ≡ positiveTimes i elapsed ⌝ }
+fn sum(earlier: Milliamperes, later: Milliamperes) -> i64
+    ensures is { λ z. ⌜ z ≡ sumOf earlier later .0 ⌝ }
+    ensures small { λ z. ⌜ natAbs z ≤ 4_294_967_296 ⌝ }
+{
+    (earlier.0 as i64) + (later.0 as i64)
+}
+
+fn half(size: u64, elapsed: Milliseconds) -> Charge
+    requires { ⌜ size ≤ 4_294_967_296 ⌝ }
+    ensures is { λ c. ⌜ c ≡ mAms (size * elapsed .0 / 2) ⌝ }
     ensures small { λ c. ⌜ c .0 ≤ 9_223_372_036_854_775_808 ⌝ }
 {
-    let z = i.0;
+    Charge(size * (elapsed.0 as u64) / 2)
+}
+
+// Of currents that charge on the whole. The bound is for the account that it joins.
+pub fn inflow(earlier: Milliamperes, later: Milliamperes, elapsed: Milliseconds) -> Charge
+    ensures is { λ c. ⌜ c ≡ mAms (positivePart (halved (flow earlier later elapsed))) ⌝ }
+    ensures small { λ c. ⌜ c .0 ≤ 9_223_372_036_854_775_808 ⌝ }
+{
+    let z = sum(earlier, later);
     if z < 0 {
         return Charge(0);
     }
-    Charge((z as u64) * (elapsed.0 as u64))
+    half(z as u64, elapsed)
 }
 
-// A current that discharges, its size times the time.
-pub fn outflow(i: Milliamperes, elapsed: Milliseconds) -> Charge
-    ensures is { λ c. ⌜ c ≡ negativeTimes i elapsed ⌝ }
+// Of currents that discharge on the whole: the magnitude is halved, so that it is rounded towards zero too.
+pub fn outflow(earlier: Milliamperes, later: Milliamperes, elapsed: Milliseconds) -> Charge
+    ensures is { λ c. ⌜ c ≡ mAms (negativePart (halved (flow earlier later elapsed))) ⌝ }
     ensures small { λ c. ⌜ c .0 ≤ 9_223_372_036_854_775_808 ⌝ }
 {
-    let z = i.0;
+    let z = sum(earlier, later);
     if z < 0 {
-        let n = 0 - (z as i64);
-        return Charge((n as u64) * (elapsed.0 as u64));
+        let size = 0 - z;
+        return half(size as u64, elapsed);
     }
     Charge(0)
 }

@@ -12,7 +12,7 @@ use Rattle.rules.specs.declared.session.Previous.the-variants.{Nothing, Frame}
 use Rattle.rules.specs.declared.battery.Tally.{Tally}
 use Rattle.rules.specs.Quantities.{mAms, missionTime, elapsed}
 use Rattle.rules.specs.Soundness.{accountLimit}
-use Rattle.rules.specs.Accounts.{positiveTimes, negativeTimes}
+use Rattle.rules.specs.Accounts.{flow, halved, positivePart, negativePart}
 use Rattle.rules.proofs.Bools.{and-iff, is-true}
 use Rattle.step.specs.Charge.{charge}
 use Rattle.advance.specs.Room.{accountsRoom}
@@ -23,18 +23,18 @@ within-limits n room =
     let both = and-iff (leb (n .charged .0) limit) (leb (n .discharged .0) limit) .0 (is-true (accountsRoom n) .1 room) in
     (leb→le (n .charged .0) limit (both .0), leb→le (n .discharged .0) limit (both .1))
 
-module _ (previous : Previous) (plausible : Bool) (t : Milliseconds) (n : Tally) where
-  pub charged : (start : Milliseconds) (i : Milliamperes) (d : Milliseconds) (a b : Charge) → previous ≡ Frame start i → plausible ≡ true
-      → d ≡ elapsed start t → a ≡ positiveTimes i d → b ≡ negativeTimes i d
+module _ (previous : Previous) (plausible : Bool) (t : Milliseconds) (i : Milliamperes) (n : Tally) where
+  pub charged : (start : Milliseconds) (earlier : Milliamperes) (d : Milliseconds) (a b : Charge) → previous ≡ Frame start earlier → plausible ≡ true
+      → d ≡ elapsed start t → a ≡ mAms (positivePart (halved (flow earlier i d))) → b ≡ mAms (negativePart (halved (flow earlier i d)))
       → _≡_ {A = Tally} (record { commands = n .commands; charged = mAms (n .charged .0 + a .0); discharged = mAms (n .discharged .0 + b .0) })
-      (charge previous plausible t n)
+      (charge previous plausible t i n)
   unfolding charge
-  charged start i d a b e p d-is a-is b-is = rw (e, p, a-is, b-is, d-is) refl
+  charged start earlier d a b e p d-is a-is b-is = rw (e, p, a-is, b-is, d-is) refl
 
-  pub not-charged : (start : Milliseconds) (i : Milliamperes) → previous ≡ Frame start i → plausible ≡ false → n ≡ charge previous plausible t n
+  pub not-charged : (start : Milliseconds) (earlier : Milliamperes) → previous ≡ Frame start earlier → plausible ≡ false → n ≡ charge previous plausible t i n
   unfolding charge
-  not-charged start i e p = simp (e, p, add-zero)
+  not-charged start earlier e p = simp (e, p, add-zero)
 
-  pub no-neighbour : previous ≡ Nothing → n ≡ charge previous plausible t n
+  pub no-neighbour : previous ≡ Nothing → n ≡ charge previous plausible t i n
   unfolding charge
   no-neighbour e = simp (e, add-zero)

@@ -14,6 +14,7 @@ use rules::sensors::Reading;
 use rules::session::Previous;
 use rules::states::State;
 use rules::units::Charge;
+use rules::units::Milliamperes;
 use rules::units::Milliseconds;
 
 // What no account of a sound record exceeds: 2,000,000 mA for the whole mission time. What one measurement adds to it fits in 64 bits.
@@ -29,20 +30,21 @@ fn accounts_room(n: Tally) -> bool
     (charged.0 <= ACCOUNT_LIMIT) & (discharged.0 <= ACCOUNT_LIMIT)
 }
 
-fn charge(previous: Previous, plausible: bool, t: Milliseconds, n: Tally) -> Tally
+// The current is that of the new measurement, at t.
+fn charge(previous: Previous, plausible: bool, t: Milliseconds, i: Milliamperes, n: Tally) -> Tally
     requires { ⌜ (n .charged .0 ≤ accountLimit missionTime .0) × (n .discharged .0 ≤ accountLimit missionTime .0) ⌝ }
-    ensures { λ m. ⌜ m ≡ chargeOf previous plausible t n ⌝ }
+    ensures { λ m. ⌜ m ≡ chargeOf previous plausible t i n ⌝ }
 {
     match previous {
         Previous::Nothing => n,
-        Previous::Frame(start, i) => {
+        Previous::Frame(start, earlier) => {
             if plausible {
                 let d = tracking::elapsed(start, t);
                 let into = n.charged;
                 let out = n.discharged;
-                let gained = account::inflow(i, d);
+                let gained = account::inflow(earlier, i, d);
                 let charged = Charge(into.0 + gained.0);
-                let lost = account::outflow(i, d);
+                let lost = account::outflow(earlier, i, d);
                 let discharged = Charge(out.0 + lost.0);
                 return Tally {
                     charged,
@@ -63,7 +65,7 @@ fn measure(t: Milliseconds, r: Reading, l: Live) -> Live
         let previous = before.previous;
         let plausible = reading::plausible(r);
         let watched = watch::observe(l.battery, t, r, before);
-        let tally = charge(previous, plausible, t, l.tally);
+        let tally = charge(previous, plausible, t, r.current, l.tally);
         return Live {
             last: t,
             watch: watched,

@@ -6,3 +6,4 @@ pub mod Second
 pub mod Third
 pub mod StateMap
 pub mod ChargeRows
+pub mod MeanCurrent

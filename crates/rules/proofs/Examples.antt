@@ -17,12 +17,12 @@ use Rattle.rules.specs.Test.{plausible}
 use Rattle.rules.specs.Protections.{permitted, extremes, overvoltage, rowOf}
 use Rattle.rules.specs.Trips.{Measured, time, isTripped}
 use Rattle.rules.specs.Ledger.{ledger, accepted, TrippedOn}
-use Rattle.rules.specs.Accounts.{charged}
-use Rattle.rules.specs.Examples.{Condition, Frame, Meets, session, Outcome, clear, tripped, Comes, Row, permits, leaves, charges, Holds, rows}
+use Rattle.rules.specs.Accounts.{account, positivePart, negativePart}
+use Rattle.rules.specs.Examples.{Condition, Frame, Meets, session, Outcome, clear, tripped, Comes, Row, permits, leaves, charges, discharges, Holds, rows}
 use Rattle.rules.specs.Lists.{all, Each, none, _and_}
 use Rattle.rules.proofs.Lists.{at-index, of-member, each-of}
 use Rattle.rules.proofs.Decide.{is-tripped}
-use Rattle.rules.proofs.Sessions.{Timely, total, measured-in, charged-in}
+use Rattle.rules.proofs.Sessions.{Timely, total, measured-in, account-in}
 use Rattle.rules.proofs.Milder.{Milder, Follows, tripped-milder, total-milder}
 use Rattle.rules.proofs.Bounds.{mildest, severest, atEnds, above-mildest, below-severest, mildest-meets}
 
@@ -119,11 +119,15 @@ leavesAtEnd frames protection outcome battery = comes outcome (isTripped (rowOf 
 abbrev usable : List Frame → Bool
 usable frames = inOrder 0 frames && all (map (λ f. atEnds (f .reads)) frames)
 
+abbrev addsAtEnds : (ℤ → ℕ) → List Frame → ℕ → Bool
+addsAtEnds part frames amount =
+    usable frames && (eqb (total part [] (map (modelled mildest) frames)) amount && eqb (total part [] (map (modelled severest) frames)) amount)
+
 abbrev decided : Row → Bool
 decided (permits battery coldest current) = eqb (natAbs (permitted battery (dC coldest) .0)) current
 decided (leaves types frames protection outcome) = usable frames && (followed protection && all (map (leavesAtEnd frames protection outcome) types))
-decided (charges frames amount) =
-    usable frames && (eqb (total [] (map (modelled mildest) frames)) amount && eqb (total [] (map (modelled severest) frames)) amount)
+decided (charges frames amount) = addsAtEnds positivePart frames amount
+decided (discharges frames amount) = addsAtEnds negativePart frames amount
 
 -- ---- a row so decided holds
 module _ (frames : List Frame) (u : T (usable frames)) (start : ℕ) (taken : List Measured) (meets : Forall₂ (Meets start) frames taken) where
@@ -145,10 +149,29 @@ module _ (frames : List Frame) (u : T (usable frames)) (start : ℕ) (taken : Li
       rw (measured-in taken in-time)
       (is-tripped p (reverseAux taken []) .0 (tripped-milder p (follows battery protection f) start 0 (reversed (above start ends meets) Forall₂·nil) h))
 
-  charges-as : (amount : ℕ) → total [] (map (modelled mildest) frames) ≡ amount → total [] (map (modelled severest) frames) ≡ amount
-      → charged (accepted (session taken)) ≡ mAms amount
-  charges-as amount most least =
-      ap mAms (charged-in taken in-time ∙ omega (arith, total-milder start 0 Forall₂·nil (above start ends meets), total-milder 0 start Forall₂·nil (below start ends meets), most, least))
+  -- what the session adds lies between the two
+  charged-between : (total positivePart [] (map (modelled severest) frames) ≤ total positivePart [] taken)
+      × (total positivePart [] taken ≤ total positivePart [] (map (modelled mildest) frames))
+  charged-between = (total-milder 0 start Forall₂·nil (below start ends meets) .0, total-milder start 0 Forall₂·nil (above start ends meets) .0)
+
+  discharged-between : (total negativePart [] (map (modelled mildest) frames) ≤ total negativePart [] taken)
+      × (total negativePart [] taken ≤ total negativePart [] (map (modelled severest) frames))
+  discharged-between = (total-milder start 0 Forall₂·nil (above start ends meets) .1, total-milder 0 start Forall₂·nil (below start ends meets) .1)
+
+  adds-as : (part : ℤ → ℕ) (amount : ℕ) → total part [] taken ≡ amount → account part (accepted (session taken)) ≡ mAms amount
+  adds-as part amount is = ap mAms (account-in taken in-time part ∙ is)
+
+at-ends : (part : ℤ → ℕ) (frames : List Frame) (amount : ℕ) → T (addsAtEnds part frames amount)
+    → T (usable frames) × (total part [] (map (modelled mildest) frames) ≡ amount) × (total part [] (map (modelled severest) frames) ≡ amount)
+at-ends part frames amount h =
+    let mild = total part [] (map (modelled mildest) frames) in
+    let severe = total part [] (map (modelled severest) frames) in
+    let b = and-yes (usable frames) (eqb mild amount && eqb severe amount) h in
+    let c = and-yes (eqb mild amount) (eqb severe amount) (b .1) in
+    (b .0, eqb→eq mild amount (c .0), eqb→eq severe amount (c .1))
+
+squeezed : {low some high amount : ℕ} → (low ≤ some) × (some ≤ high) → low ≡ amount → high ≡ amount → some ≡ amount
+squeezed between low high = omega (arith, between, low, high)
 
 holds : (row : Row) → T (decided row) → Holds row
 unfolding permitted
@@ -158,11 +181,11 @@ holds (leaves types frames protection outcome) h = λ battery m start taken meet
     let c = and-yes (followed protection) (all (map (leavesAtEnd frames protection outcome) types)) (b .1) in
     leaves-as frames (b .0) start taken meets battery protection outcome (c .0) (of-member (each-of (leavesAtEnd frames protection outcome) types (c .1)) m)
 holds (charges frames amount) h = λ start taken meets.
-    let most = total [] (map (modelled mildest) frames) in
-    let least = total [] (map (modelled severest) frames) in
-    let b = and-yes (usable frames) (eqb most amount && eqb least amount) h in
-    let c = and-yes (eqb most amount) (eqb least amount) (b .1) in
-    charges-as frames (b .0) start taken meets amount (eqb→eq most amount (c .0)) (eqb→eq least amount (c .1))
+    let (u, mild, severe) = at-ends positivePart frames amount h in
+    adds-as frames u start taken meets positivePart amount (squeezed (charged-between frames u start taken meets) severe mild)
+holds (discharges frames amount) h = λ start taken meets.
+    let (u, mild, severe) = at-ends negativePart frames amount h in
+    adds-as frames u start taken meets negativePart amount (squeezed (discharged-between frames u start taken meets) mild severe)
 
 pub examples : (i : ℕ) → i < length rows → (d : Row) → Holds (getD rows i d)
 unfolding rows plausible extremes permitted rowOf
@@ -173,6 +196,7 @@ abbrev framesOf : Row → List Frame
 framesOf (permits battery coldest current) = []
 framesOf (leaves types frames protection outcome) = frames
 framesOf (charges frames amount) = frames
+framesOf (discharges frames amount) = frames
 
 abbrev meetable : Frame → Bool
 meetable f = atEnds (f .reads) && leb (f .at) (missionTime .0)

@@ -6,6 +6,8 @@ pub mod Mask
 pub mod Apart
 pub mod Extremes
 pub mod Injective
+pub mod Flow
+pub mod MeanCurrent
 pub mod Sessions
 pub mod Milder
 pub mod Bounds

@@ -1,24 +1,26 @@
 -- One list of measurements milder than another, frame by frame: the highest cell no higher, the current no lower. What the milder one
--- trips the other trips too, for a protection that looks at these alone; and the milder one charges no less.
+-- trips the other trips too, for a protection that looks at these alone; and the milder one charges no less and discharges no more.
 use mathlib.Core.Path.{_≡_, sym, subst}
 use mathlib.Core.Logic.{inl, inr, Iff·rfl}
 use mathlib.Core.Bool.{Bool, true, false, cond, _&&_}
 use mathlib.Core.List.{List, _∷_, Forall₂, Forall₂·nil, Forall₂·cons}
-use Prim.Native.Nat.{ℕ, _+_, _-_, _≤_, zero-le}
+use Prim.Native.Nat.{ℕ, _+_, _-_, _*_, _/_, _≤_, zero-le, suc-le-suc}
 use native.Mathlib.Nat.{mul-le-mul-right, add-le-add}
 use native.Mathlib.Omega.{arith}
 use lib.Dec.{T, leb→le}
-use lib.IntN.{ℤ, pos, negsuc}
+use lib.IntN.{ℤ, pos, negsuc, _+ℤ_}
 use lib.Signed.{leZ}
+use Rattle.rules.specs.declared.units.Milliamperes.{Milliamperes}
 use Rattle.rules.specs.declared.units.Milliseconds.{Milliseconds}
 use Rattle.rules.specs.declared.sensors.Reading.{Reading}
 use Rattle.rules.specs.Quantities.{_≤ms_, elapsed}
 use Rattle.rules.specs.Test.{plausible}
 use Rattle.rules.specs.Protections.{Protection, highest}
 use Rattle.rules.specs.Trips.{Measured, time, passes, reaches, endsNow, isTripped}
-use Rattle.rules.specs.Accounts.{positivePart, positiveTimes, increment}
+use Rattle.rules.specs.Accounts.{flow, halved, positivePart, negativePart, increment}
 use Rattle.rules.proofs.Spans.{kept-or-new}
 use Rattle.rules.proofs.Decide.{and-or}
+use Rattle.rules.proofs.Flow.{positive-flow, negative-flow, positive-sum, negative-sum}
 use Rattle.rules.proofs.Sessions.{total}
 
 pub record MilderReading (r q : Reading) : Type 0 where
@@ -96,28 +98,64 @@ module _ (p : Protection) (follows : Follows p) (start begin : ℕ) where
       kept-or-new (endsNow (p .beyond) (p .hold) (n ∷ ns)) (endsNow (p .within) (p .release) (n ∷ ns)) (isTripped p ns) Iff·rfl Iff·rfl Iff·rfl .1
       (elim held [ inl y ↦ inl (trips y) | inr y ↦ inr (before (y .0), λ w. y .1 (releases w)) ])
 
--- ---- charged
+-- ---- an account
 positive-le : (j i : ℤ) → T (leZ j i) → positivePart j ≤ positivePart i
 positive-le (pos j) (pos i) h = leb→le j i h
 positive-le (pos j) (negsuc i) h = absurd h
 positive-le (negsuc j) i h = zero-le
 
-cond-le : (a b : Bool) {x y : ℕ} → (T a → y ≤ x) → cond (a && b) y 0 ≤ cond (a && b) x 0
-cond-le true true f = f tt
-cond-le true false f = zero-le
-cond-le false b f = zero-le
+negative-le : (j i : ℤ) → T (leZ j i) → negativePart i ≤ negativePart j
+negative-le (pos j) i h = negative-le-pos i h
+  where
+    negative-le-pos : (i : ℤ) → T (leZ (pos j) i) → negativePart i ≤ 0
+    negative-le-pos (pos i) h = zero-le
+    negative-le-pos (negsuc i) h = absurd h
+negative-le (negsuc j) (pos i) h = zero-le
+negative-le (negsuc j) (negsuc i) h = suc-le-suc (leb→le i j h)
+
+half-le : {a b : ℕ} (t : ℕ) → a ≤ b → a * t / 2 ≤ b * t / 2
+half-le t h = omega (arith, mul-le-mul-right t h)
+
+-- two neighbours of no higher currents charge no more, and discharge no less
+module _ (j k i h : Milliamperes) (t : Milliseconds) (first : T (leZ (j .0) (i .0))) (second : T (leZ (k .0) (h .0))) where
+  pair-milder : (positivePart (halved (flow j k t)) ≤ positivePart (halved (flow i h t)))
+      × (negativePart (halved (flow i h t)) ≤ negativePart (halved (flow j k t)))
+  pair-milder =
+      let low = j .0 +ℤ k .0 in
+      let high = i .0 +ℤ h .0 in
+      let charged : positivePart low ≤ positivePart high = omega (arith, above, below, positive-sum (j .0) (k .0), positive-sum (i .0) (h .0)) in
+      let discharged : negativePart high ≤ negativePart low = omega (arith, above, below, negative-sum (j .0) (k .0), negative-sum (i .0) (h .0)) in
+      rw (positive-flow low (t .0), positive-flow high (t .0), negative-flow low (t .0), negative-flow high (t .0))
+      (half-le (t .0) charged, half-le (t .0) discharged)
+    where
+      above : (positivePart (j .0) ≤ positivePart (i .0)) × (positivePart (k .0) ≤ positivePart (h .0))
+      above = (positive-le (j .0) (i .0) first, positive-le (k .0) (h .0) second)
+
+      below : (negativePart (i .0) ≤ negativePart (j .0)) × (negativePart (h .0) ≤ negativePart (k .0))
+      below = (negative-le (j .0) (i .0) first, negative-le (k .0) (h .0) second)
+
+if-both : (a b : Bool) {w x y z : ℕ} → (T a → T b → (w ≤ x) × (y ≤ z))
+    → (cond (a && b) w 0 ≤ cond (a && b) x 0) × (cond (a && b) y 0 ≤ cond (a && b) z 0)
+if-both true true f = f tt tt
+if-both true false f = (zero-le, zero-le)
+if-both false b f = (zero-le, zero-le)
 
 module _ (start begin : ℕ) where
   increment-milder : {before past : List Measured} → Forall₂ (Milder start begin) before past → (m n : Measured) → Milder start begin m n
-      → increment positiveTimes past n .0 ≤ increment positiveTimes before m .0
-  increment-milder Forall₂·nil m n x = zero-le
+      → (increment positivePart past n .0 ≤ increment positivePart before m .0) × (increment negativePart before m .0 ≤ increment negativePart past n .0)
+  increment-milder Forall₂·nil m n x = (zero-le, zero-le)
   increment-milder (Forall₂·cons {a = e} {b = f} y ys) m n x =
       let same : time n - time f ≡ time m - time e = omega (arith, x .times, y .times) in
       rw (← (x .readings .alike), ← (y .readings .alike), same)
-      (cond-le (plausible (e .reading)) (plausible (m .reading))
-      (λ ok. mul-le-mul-right (time m - time e) (positive-le (f .reading .current .0) (e .reading .current .0) (y .readings .current ok))))
+      (if-both (plausible (e .reading)) (plausible (m .reading))
+      (λ first second.
+      pair-milder (f .reading .current) (n .reading .current) (e .reading .current) (m .reading .current) (elapsed (e .at) (m .at))
+      (y .readings .current first) (x .readings .current second)))
 
   pub total-milder : {before past ms ns : List Measured} → Forall₂ (Milder start begin) before past → Forall₂ (Milder start begin) ms ns
-      → total past ns ≤ total before ms
-  total-milder b Forall₂·nil = zero-le
-  total-milder b (Forall₂·cons {a = m} {b = n} x xs) = add-le-add (increment-milder b m n x) (total-milder (Forall₂·cons x b) xs)
+      → (total positivePart past ns ≤ total positivePart before ms) × (total negativePart before ms ≤ total negativePart past ns)
+  total-milder b Forall₂·nil = (zero-le, zero-le)
+  total-milder b (Forall₂·cons {a = m} {b = n} x xs) =
+      let now = increment-milder b m n x in
+      let later = total-milder (Forall₂·cons x b) xs in
+      (add-le-add (now .0) (later .0), add-le-add (now .1) (later .1))

@@ -104,6 +104,9 @@ each-row =
     and owed .shared .test
     and opens owed tt
     and none)
+    and (λ answers after contactor owed. owed .shared .charged and owed .shared .discharged and none)
+    and (λ answers after contactor owed. owed .shared .charged and owed .shared .discharged and none)
+    and (λ answers after contactor owed. owed .shared .charged and owed .shared .discharged and none)
     and none
 
 pub shows : (engine : Engine) → AfterEveryList engine → (i : ℕ) → i < length rows → (d : Row) → Shows engine (getD rows i d)

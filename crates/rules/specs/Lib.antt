@@ -21,5 +21,6 @@ pub mod Logs
 pub mod Text
 pub mod Claims
 pub mod StateMap
+pub mod MeanCurrent
 pub mod Examples
 pub mod Worthless

@@ -1,5 +1,5 @@
 -- Document 01, "Worthless engines" and "Bench mistakes seen", as rows of one table: short lists, and what an engine that meets the claims
--- shows after each; and two rows for document 02, S-3. What is worthless or mistaken shows something else. proofs/Worthless has one
+-- shows after each; and rows for document 02, S-3 and S-5. What is worthless or mistaken shows something else. proofs/Worthless has one
 -- theorem over all rows.
 use Prim.Native.Nat.{ℕ, zero, suc, _+_}
 use mathlib.Core.Path.{_≡_}
@@ -152,7 +152,7 @@ Shows engine r = (given : List ℕ) (after : Record) (contactor : Contactor) →
 -- "obeys the first session, then copies its last answer"
 -- "made-up command count": of three commands one is refused, and a power loss leaves the count
 -- "made-up .. sensor count": all cells but the first
--- the accounts: 60,000 mA for a second, then -30,000
+-- the accounts, by the mean current of document 02, S-5: a second from 60,000 mA to -20,000, then one to -10,000
 -- "skipping trip entries under override"
 -- "letting Force closed pass a tripped protection with override off"
 -- "stretching a span over a power loss"
@@ -160,6 +160,8 @@ Shows engine r = (given : List ℕ) (after : Record) (contactor : Contactor) →
 -- "keeping the newest 64"
 -- beside number 1, a record of type 1
 -- document 02, S-3: Maintenance with Force closed and override on; then straight to Dormant, which ends both
+-- document 02, S-5: each pair's product is halved, towards zero; a power loss parts two measurements; the greatest current for the whole
+-- mission meets the soundness limit
 unfoldable pub rows : List Row
 rows =
     row 1 (powerOn 0 ∷ powerLoss 0 ∷ powerOn 7 ∷ []) (answers (0 ∷ 0 ∷ 0 ∷ []) ∷ state 1 ∷ last 7 ∷ [])
@@ -169,8 +171,8 @@ rows =
     (powerOn 0 ∷ toOperational ∷ ContactorCommand (ms 0) Automated ∷ ContactorCommand (ms 0) ForceClosed ∷ ContactorCommand (ms 0) Open ∷ powerLoss 0 ∷ [])
     (commands 2 ∷ command 0 ∷ [])
     ∷ row 1 (powerOn 0 ∷ Measurement (ms 0) (reading 3_300 499 (pos 0) (pos 250)) ∷ []) (failedMask 254 ∷ failedCount 7 ∷ test 2 ∷ [])
-    ∷ row 1 (powerOn 0 ∷ currentOf 0 (pos 60_000) ∷ currentOf 1_000 (negℤ (pos 30_000)) ∷ currentOf 2_000 (pos 0) ∷ [])
-    (charged 60_000_000 ∷ discharged 30_000_000 ∷ [])
+    ∷ row 1 (powerOn 0 ∷ currentOf 0 (pos 60_000) ∷ currentOf 1_000 (negℤ (pos 20_000)) ∷ currentOf 2_000 (negℤ (pos 10_000)) ∷ [])
+    (charged 20_000_000 ∷ discharged 15_000_000 ∷ [])
     ∷ row 1 (lowCellsUnder true) (override 1 ∷ tripped 1 ∷ clear 0 ∷ longTerm lowCellTrip ∷ shortTerm lowCellTrip ∷ closed ∷ [])
     ∷ row 1 lowCellsForced (state 3 ∷ command 2 ∷ tripped 1 ∷ open' ∷ [])
     ∷ row 1 overPowerLoss (clear 0 ∷ longTerm [] ∷ [])
@@ -179,4 +181,8 @@ rows =
     ∷ row 0 (powerOn 0 ∷ []) (batteryType 1 ∷ answers (0 ∷ []) ∷ [])
     ∷ row 1 forced (state 3 ∷ command 2 ∷ override 1 ∷ closed ∷ [])
     ∷ row 1 (forced ++ toDormant ∷ []) (answers (0 ∷ 0 ∷ 0 ∷ 0 ∷ 0 ∷ 0 ∷ 0 ∷ []) ∷ state 1 ∷ command 0 ∷ override 0 ∷ test 1 ∷ open' ∷ [])
+    ∷ row 1 (powerOn 0 ∷ currentOf 0 (negℤ (pos 1)) ∷ currentOf 1 (pos 2) ∷ currentOf 4 (negℤ (pos 1)) ∷ []) (charged 1 ∷ discharged 0 ∷ [])
+    ∷ row 1 (powerOn 0 ∷ currentOf 0 (pos 60_000) ∷ powerLoss 500 ∷ powerOn 500 ∷ currentOf 1_000 (pos 60_000) ∷ []) (charged 0 ∷ discharged 0 ∷ [])
+    ∷ row 1 (powerOn 0 ∷ currentOf 0 (negℤ (pos 2_000_000)) ∷ currentOf 345_600_000 (negℤ (pos 2_000_000)) ∷ [])
+    (charged 0 ∷ discharged 691_200_000_000_000 ∷ [])
     ∷ []

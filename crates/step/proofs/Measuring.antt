@@ -4,8 +4,8 @@ use mathlib.Core.Bool.{Bool, true, false, cond}
 use mathlib.Core.List.{List, _∷_, _++_}
 use Prim.Native.Nat.{ℕ, _+_, _*_, _≤_, _<_}
 use native.Mathlib.Omega.{arith}
+use lib.IntN.{ℤ}
 use lib.ListN.{take}
-use Rattle.rules.specs.declared.units.Milliamperes.{Milliamperes}
 use Rattle.rules.specs.declared.units.Milliseconds.{Milliseconds}
 use Rattle.rules.specs.declared.units.Charge.{Charge}
 use Rattle.rules.specs.declared.sensors.Reading.{Reading}
@@ -24,16 +24,16 @@ use Rattle.rules.specs.Trips.{Measured}
 use Rattle.rules.specs.Refusals.{InTime}
 use Rattle.rules.specs.Ledger.{Ledger, accept, Accepted, entered, isTrippedOn}
 use Rattle.rules.specs.Stores.{since, isClear, isBorder, tripsOf, entriesOf}
-use Rattle.rules.specs.Accounts.{account, increment, positiveTimes, negativeTimes}
+use Rattle.rules.specs.Accounts.{account, increment, positivePart, negativePart}
 use Rattle.rules.specs.Shown.{keptAt}
 use Rattle.rules.proofs.Apart.{apart}
 use Rattle.rules.proofs.Lists.{at-place, take-kept, last-kept}
 use Rattle.step.specs.Track.{trackOne, trackAll, observe}
-use Rattle.step.specs.Charge.{flowed, charge}
+use Rattle.step.specs.Charge.{incrementFrom, charge}
 use Rattle.step.specs.Call.{advance}
 use Rattle.step.proofs.Tracking.{Ordered, all-by-later, Tracks, tracks-next}
 use Rattle.step.proofs.Adding.{Added, added-all}
-use Rattle.step.proofs.Charging.{flowed-is, accountTime, account-time, Bounded, increment-bounded, positive-bounded, negative-bounded}
+use Rattle.step.proofs.Charging.{increment-from, accountTime, account-time, Bounded, increment-bounded, positive-bounded, negative-bounded}
 use Rattle.step.proofs.Shows.{ShowsWatch, ShowsTally, ShowsStores, Shows}
 
 -- ---- what is watched
@@ -95,13 +95,13 @@ module _ (r : Record) (l : Ledger) (past : List Accepted) (k : Shows r l past) (
   }
 
   -- one account, by what flows into it
-  module _ (part : Milliamperes → Milliseconds → Charge) (b : Bounded part) (n : Charge) where
+  module _ (part : ℤ → ℕ) (b : Bounded part) (n : Charge) where
     more : Charge
-    more = flowed part (r .live .watch .previous) (plausible m) t
+    more = incrementFrom part (r .live .watch .previous) (plausible m) t (m .current)
 
     is-increment : more ≡ increment part (l .measured) new
     unfolding more
-    is-increment = rw (k .watch .previous) (flowed-is part (l .measured) t m)
+    is-increment = rw (k .watch .previous) (increment-from part (l .measured) t m)
 
     account-is : n ≡ account part past → mAms (n .0 + more .0) ≡ account part (a ∷ past)
     account-is q = ap₂ (λ (x y : Charge). mAms (x .0 + y .0)) q is-increment
@@ -115,10 +115,10 @@ module _ (r : Record) (l : Ledger) (past : List Accepted) (k : Shows r l past) (
   unfolding charge more
   tallied = record {
     counted = k .tally .counted;
-    charged = account-is positiveTimes positive-bounded (r .live .tally .charged) (k .tally .charged);
-    discharged = account-is negativeTimes negative-bounded (r .live .tally .discharged) (k .tally .discharged);
-    chargedBy = account-by positiveTimes positive-bounded (r .live .tally .charged) (k .tally .chargedBy);
-    dischargedBy = account-by negativeTimes negative-bounded (r .live .tally .discharged) (k .tally .dischargedBy);
+    charged = account-is positivePart positive-bounded (r .live .tally .charged) (k .tally .charged);
+    discharged = account-is negativePart negative-bounded (r .live .tally .discharged) (k .tally .discharged);
+    chargedBy = account-by positivePart positive-bounded (r .live .tally .charged) (k .tally .chargedBy);
+    dischargedBy = account-by negativePart negative-bounded (r .live .tally .discharged) (k .tally .dischargedBy);
   }
 
   pub measured : Shows (advance r (Measurement t m)) (accept l (Measurement t m)) (a ∷ past)

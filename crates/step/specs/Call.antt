@@ -33,7 +33,7 @@ measureLive t r l = record {
   last = t;
   control = l .control;
   watch = observe (l .battery) t r (l .watch);
-  tally = charge (l .watch .previous) (plausible r) t (l .tally);
+  tally = charge (l .watch .previous) (plausible r) t (r .current) (l .tally);
 }
 
 -- the border of a session: what power on and power loss write anew; type, tally and the long-term store stay

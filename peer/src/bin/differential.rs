@@ -144,6 +144,9 @@ fn print_tally(tally: &Tally) {
     println!("closed with trips lifted {}", tally.closed_lifted);
     println!("trips past a full long-term store {}", tally.past_long);
     println!("entries past a full short-term store {}", tally.past_short);
+    let [above, below] = tally.odd;
+    println!("neighbours of odd product above zero {above}, below {below}");
+    println!("neighbours whose currents cancel {}", tally.cancelled);
 }
 
 fn main() -> ExitCode {

@@ -191,6 +191,25 @@ fn set_cell_to_rim(frame: &mut Frame, rng: &mut Rng) {
     set_cell(frame, rng, value);
 }
 
+/// A current too small to be beyond any protection.
+pub fn faint(rng: &mut Rng) -> i32 {
+    rng.pick(&[0, 0, 0, 1, -1, 2, -2, 3, -3, 7, -7, 499, -499])
+}
+
+/// A current to follow the last: one that leaves little of their sum or
+/// nothing, one of the opposite sign, or any.
+pub fn neighbour(rng: &mut Rng, last: i32) -> i32 {
+    let last = i64::from(last);
+    let current = match rng.below(8) {
+        0..=3 => rng.pick(&[1, -1, 3, -3, 2, -5]) - last,
+        4 => -last,
+        5 => -last.signum() * rng.between(1, 2_000_000),
+        6 => rng.pick(&[-2_000_000, 2_000_000, 60_000, -20_000]),
+        _ => rng.between(-2_000_000, 2_000_000),
+    };
+    current.clamp(-2_000_000, 2_000_000) as i32
+}
+
 pub fn zone(rng: &mut Rng) -> Zone {
     rng.pick(&[Zone::Beyond, Zone::Beyond, Zone::Between, Zone::Within])
 }
@@ -198,6 +217,7 @@ pub fn zone(rng: &mut Rng) -> Zone {
 /// A frame with some protections aimed at.
 pub fn any(rng: &mut Rng, battery: u8) -> Frame {
     let mut frame = Frame::NOMINAL;
+    frame.current = faint(rng);
     for _ in 0..rng.below(4) {
         let protection = rng.below(8) as u8;
         let zone = zone(rng);

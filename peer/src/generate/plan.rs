@@ -12,6 +12,8 @@ pub struct Plan {
     pub left: usize,
     /// The last accepted time.
     pub now: u32,
+    /// The last accepted frame's current.
+    pub current: i32,
     pub state: u8,
     /// Whether a call may jump to the mission time.
     pub may_finish: bool,
@@ -26,6 +28,7 @@ impl Plan {
             battery,
             left: events,
             now: 0,
+            current: 0,
             state: 0,
             may_finish,
         }
@@ -43,21 +46,29 @@ impl Plan {
         self.follow(kind, time, last);
     }
 
+    /// The frame at the time, mostly put back to the mission's end if later.
     pub fn frame(&mut self, time: u32, frame: &Frame) {
+        let late = time > MISSION && !self.rng.one_in(6);
+        self.frame_at(if late { MISSION } else { time }, frame);
+    }
+
+    /// The frame at the very time, be it refused.
+    pub fn frame_at(&mut self, time: u32, frame: &Frame) {
         if self.left == 0 {
             return;
         }
         self.left -= 1;
-        let late = time > MISSION && !self.rng.one_in(6);
-        let time = if late { MISSION } else { time };
         self.log.measurement(time, frame);
-        self.follow(1, time, 0);
+        if self.follow(1, time, 0) {
+            self.current = frame.current;
+        }
     }
 
-    fn follow(&mut self, kind: u8, time: u32, last: u8) {
+    /// Takes in what the call does; answers whether it is accepted.
+    fn follow(&mut self, kind: u8, time: u32, last: u8) -> bool {
         let timely = (self.now..=MISSION).contains(&time);
         if !timely || (self.state == 0) != (kind == 2) {
-            return;
+            return false;
         }
         let accepted = match kind {
             4 => self.state == 3 || (self.state == 2 && last < 2),
@@ -75,6 +86,7 @@ impl Plan {
                 _ => self.state,
             };
         }
+        accepted
     }
 
     pub fn power_on(&mut self, time: u32) {

@@ -1,22 +1,24 @@
-//! What happens in a log: spans cut close, storms, walks through the states.
+//! What happens in a log: spans cut close, storms, walks through the states,
+//! currents that nearly cancel.
 
-use super::frames::{aim, any, disaster, spoil, zone, Zone, TIMES};
+use super::frames::{aim, any, disaster, faint, neighbour, spoil, zone, Zone, TIMES};
 use super::plan::{Plan, MISSION};
 use crate::wire::Frame;
 
 /// A profile names how often each script comes: spans, loose frames, noise,
-/// storms, power cycles, clears, parkings.
-pub type Profile = [u64; 7];
+/// storms, power cycles, clears, parkings, currents.
+pub type Profile = [u64; 8];
 
-pub const PROFILES: [Profile; 8] = [
-    [10, 4, 4, 0, 1, 1, 2],
-    [1, 30, 3, 0, 1, 1, 2],
-    [1, 1, 1, 12, 0, 0, 1],
-    [2, 4, 30, 0, 3, 2, 3],
-    [6, 6, 6, 3, 2, 2, 3],
-    [20, 0, 0, 0, 0, 0, 0],
-    [2, 2, 1, 10, 1, 3, 1],
-    [2, 3, 4, 0, 1, 1, 12],
+pub const PROFILES: [Profile; 9] = [
+    [10, 4, 4, 0, 1, 1, 2, 1],
+    [1, 30, 3, 0, 1, 1, 2, 2],
+    [1, 1, 1, 12, 0, 0, 1, 0],
+    [2, 4, 30, 0, 3, 2, 3, 2],
+    [6, 6, 6, 3, 2, 2, 3, 3],
+    [20, 0, 0, 0, 0, 0, 0, 0],
+    [2, 2, 1, 10, 1, 3, 1, 1],
+    [2, 3, 4, 0, 1, 1, 12, 1],
+    [1, 2, 2, 0, 1, 0, 1, 12],
 ];
 
 pub fn fill(plan: &mut Plan, profile: &Profile) {
@@ -33,7 +35,8 @@ pub fn fill(plan: &mut Plan, profile: &Profile) {
             3 => storm(plan),
             4 => power_cycle(plan),
             5 => clear(plan),
-            _ => park(plan),
+            6 => park(plan),
+            _ => currents(plan),
         }
     }
 }
@@ -134,6 +137,9 @@ fn middle(plan: &mut Plan, time: u32, background: Frame, protection: u8, zone: Z
 }
 
 fn frame_in(plan: &mut Plan, time: u32, mut frame: Frame, protection: u8, zone: Zone) {
+    if frame.current == 0 {
+        frame.current = faint(&mut plan.rng);
+    }
     aim(&mut frame, &mut plan.rng, plan.battery, protection, zone);
     plan.frame(time, &frame);
 }
@@ -251,6 +257,49 @@ fn park(plan: &mut Plan) {
     }
 }
 
+/// A row of frames whose neighbours try the rounding and the sign of what
+/// joins the accounts, with what parts neighbours, or does not, in between.
+fn currents(plan: &mut Plan) {
+    for _ in 0..2 + plan.rng.below(12) {
+        match plan.rng.below(24) {
+            0 => spoiled_frame(plan),
+            1 => power_cycle(plan),
+            2 => plan.noise(),
+            3 => untimely_frame(plan),
+            _ => (),
+        }
+        let current = neighbour(&mut plan.rng, plan.current);
+        let time = plan.now.saturating_add(elapsed(plan));
+        plan.frame(time, &Frame::NOMINAL.with_current(current));
+    }
+}
+
+/// Mostly few milliseconds and odd; at times a good part of what is left.
+fn elapsed(plan: &mut Plan) -> u32 {
+    match plan.rng.below(24) {
+        0 => 0,
+        1..=3 => 2,
+        4..=6 => plan.rng.pick(&[999, 1_000, 1_001]),
+        7 => plan.rng.below(u64::from(MISSION - plan.now) / 8 + 2) as u32,
+        _ => plan.rng.pick(&[1, 1, 1, 3, 3, 5, 7]),
+    }
+}
+
+fn spoiled_frame(plan: &mut Plan) {
+    let mut frame = Frame::NOMINAL.with_current(plan.current);
+    spoil(&mut frame, &mut plan.rng);
+    let time = plan.now.saturating_add(elapsed(plan));
+    plan.frame(time, &frame);
+}
+
+/// A frame just before the last time, where that is not 0, or too late.
+fn untimely_frame(plan: &mut Plan) {
+    let before = plan.now.saturating_sub(1);
+    let time = plan.rng.pick(&[before, before, MISSION + 1, u32::MAX]);
+    let current = neighbour(&mut plan.rng, plan.current);
+    plan.frame_at(time, &Frame::NOMINAL.with_current(current));
+}
+
 /// Where the log's time begins: 0, anywhere, or close to the mission's end.
 pub fn begin(plan: &mut Plan) {
     let start = match plan.rng.below(24) {
@@ -262,4 +311,21 @@ pub fn begin(plan: &mut Plan) {
     };
     plan.power_on(start);
     plan.drive();
+    if start == 0 && plan.rng.one_in(12) {
+        full_current(plan);
+    }
+}
+
+/// The greatest current from 0 on: an account as large as a sound one can be.
+fn full_current(plan: &mut Plan) {
+    let current = plan.rng.pick(&[-2_000_000, 2_000_000]);
+    let frame = Frame::NOMINAL.with_current(current);
+    plan.frame(0, &frame);
+    for _ in 0..1 + plan.rng.below(6) {
+        let time = plan.now.saturating_add(elapsed(plan));
+        plan.frame(time, &frame);
+    }
+    if plan.may_finish && plan.rng.one_in(4) {
+        plan.frame(MISSION, &frame);
+    }
 }

@@ -2,7 +2,7 @@
 
 use super::history::{History, DORMANT, MAINTENANCE};
 use super::reader::{Call, Event};
-use super::stores::Entry;
+use super::stores::{Entry, Neighbours};
 use super::Ending;
 
 #[derive(Clone, Debug, Default)]
@@ -21,6 +21,10 @@ pub struct Tally {
     pub failed_tests: u64,
     pub past_long: u64,
     pub past_short: u64,
+    /// Neighbours whose product is odd: above zero, below it.
+    pub odd: [u64; 2],
+    /// Neighbours whose currents, not zero, cancel over some time.
+    pub cancelled: u64,
 }
 
 impl Tally {
@@ -66,12 +70,26 @@ impl Tally {
         self.past_short += past(session, 16, added.len());
     }
 
-    pub(super) fn finish(&mut self, ending: Ending) {
+    pub(super) fn finish(&mut self, history: &History, ending: Ending) {
         let number = match ending {
             Ending::End => 0,
             Ending::Stop { number, .. } => number,
         };
         self.stops[usize::from(number)] += 1;
+        history
+            .neighbours()
+            .iter()
+            .for_each(|pair| self.note_pair(pair));
+    }
+
+    fn note_pair(&mut self, pair: &Neighbours) {
+        let product = pair.product();
+        if product % 2 != 0 {
+            self.odd[usize::from(product < 0)] += 1;
+        }
+        let apart = pair.later.time > pair.earlier.time;
+        let flowing = pair.later.reading.current != 0;
+        self.cancelled += u64::from(apart && flowing && product == 0);
     }
 
     pub fn add(&mut self, other: &Tally) {
@@ -81,11 +99,13 @@ impl Tally {
         sum(&mut self.stops, &other.stops);
         sum(&mut self.trips, &other.trips);
         sum(&mut self.releases, &other.releases);
+        sum(&mut self.odd, &other.odd);
         self.events += other.events;
         self.closed += other.closed;
         self.closed_lifted += other.closed_lifted;
         self.failed_tests += other.failed_tests;
         self.past_long += other.past_long;
         self.past_short += other.past_short;
+        self.cancelled += other.cancelled;
     }
 }

@@ -15,20 +15,20 @@ elapsed-requires c κs = search needs
 inflow-requires : tie.Need-inflow-requires
 inflow-requires c κs = search needs
 
-add-t16 : tie.Need-add-t16
-add-t16 c = search needs
+add-t17 : tie.Need-add-t17
+add-t17 c = search needs
 
 outflow-requires : tie.Need-outflow-requires
 outflow-requires c κs = search needs
 
-add-t16-2 : tie.Need-add-t16-2
-add-t16-2 c = search needs
+add-t17-2 : tie.Need-add-t17-2
+add-t17-2 c = search needs
 
 returns : tie.Need-returns
 returns c = search (charged, needs)
 
 returns-2 : tie.Need-returns-2
-returns-2 c = no-neighbour _ _ _ _ (c .enum-told .given .1)
+returns-2 c = no-neighbour _ _ _ _ _ (c .enum-told .given .1)
 
 returns-3 : tie.Need-returns-3
 returns-3 c = search (not-charged, needs)
@@ -41,9 +41,9 @@ charge-spec =
     enum-known-previous
     elapsed-requires
     inflow-requires
-    add-t16
+    add-t17
     outflow-requires
-    add-t16-2
+    add-t17-2
     returns
     returns-2
     returns-3)

@@ -7,7 +7,7 @@ use native.Mathlib.Omega.{arith}
 use borrow.Author.Tests.{ltb-true}
 use lib.Dec.{T}
 use lib.IntN.{ℤ, pos, negsuc, natAbs, _+ℤ_, _-ℤ_, _*ℤ_}
-use lib.Signed.{ltZ, nonNeg, natAbs-le}
+use lib.Signed.{ltZ, nonNeg, natAbs-le, ltZ-no, yes-nonNeg}
 use mir.Syntax.{w32, w64}
 use mir.Val.{Fits, SFits, toZ, ofZ}
 use mir.Facts.{fits-le, fits-lit, sfits-widen, toZ-ofZ}
@@ -53,23 +53,22 @@ module _ {i j : ℤ} (f : SFits w32 i) (g : SFits w32 j) where
   sum-read-small = rw sum-read (sum-small i j f g)
 
 -- ---- the product
-times : {size t : ℕ} → size ≤ 4_294_967_296 → t < 2 ^ 32 → size * t ≤ 4_294_967_296 * 4_294_967_295
-times {size} {t} h k = let below : t ≤ 4_294_967_295 = omega (arith, k) in mul-le-mul h below
+times : {magnitude t : ℕ} → magnitude ≤ 4_294_967_296 → t < 2 ^ 32 → magnitude * t ≤ 4_294_967_296 * 4_294_967_295
+times {magnitude} {t} h k = let below : t ≤ 4_294_967_295 = omega (arith, k) in mul-le-mul h below
 
-pub product-fits : {size t : ℕ} → size ≤ 4_294_967_296 → t < 2 ^ 32 → Fits w64 (size * t)
+pub product-fits : {magnitude t : ℕ} → magnitude ≤ 4_294_967_296 → t < 2 ^ 32 → Fits w64 (magnitude * t)
 product-fits h k = fits-le (times h k) (fits-lit tt)
 
-pub half-small : {size t : ℕ} → size ≤ 4_294_967_296 → t < 2 ^ 32 → size * t / 2 ≤ 9_223_372_036_854_775_808
+pub half-small : {magnitude t : ℕ} → magnitude ≤ 4_294_967_296 → t < 2 ^ 32 → magnitude * t / 2 ≤ 9_223_372_036_854_775_808
 half-small h k = omega (arith, times h k)
 
--- ---- by the sign of the sum: its size, and what it adds
+-- ---- by the sign of the sum: its magnitude, and what it adds
 negated : (z : ℤ) → ltZ z (pos 0) ≡ true → pos 0 -ℤ z ≡ pos (natAbs z)
 negated (pos n) e = absurd (omega (arith, ltb-true n 0 e))
 negated (negsuc n) e = ap pos (omega arith)
 
 not-negative : (z : ℤ) → ltZ z (pos 0) ≡ false → T (nonNeg z)
-not-negative (pos n) e = tt
-not-negative (negsuc n) e = subst T e tt
+not-negative z e = yes-nonNeg (ltZ-no {a = z} {b = pos 0} (rw e tt))
 
 negative-adds : (z : ℤ) (t : ℕ) → ltZ z (pos 0) ≡ true
     → (0 ≡ positivePart (halved (z *ℤ pos t))) × (natAbs z * t / 2 ≡ negativePart (halved (z *ℤ pos t)))
@@ -89,8 +88,8 @@ module _ (z : ℤ) (small : natAbs z ≤ 4_294_967_296) where
   stored-is : stored ≡ z
   stored-is = toZ-ofZ (small-fits z small)
 
-  pub size-small : natAbs stored ≤ 4_294_967_296
-  size-small = rw stored-is small
+  pub magnitude-small : natAbs stored ≤ 4_294_967_296
+  magnitude-small = rw stored-is small
 
   module _ (negative : ltZ stored (pos 0) ≡ true) where
     abbrev negation : ℤ
@@ -108,8 +107,8 @@ module _ (z : ℤ) (small : natAbs z ≤ 4_294_967_296) where
     negation-read : toZ w64 (ofZ w64 negation) ≡ pos (natAbs z)
     negation-read = toZ-ofZ negation-fits ∙ negation-is
 
-    pub negation-as-size : T (nonNeg (toZ w64 (ofZ w64 negation))) × Fits w64 (natAbs (toZ w64 (ofZ w64 negation)))
-    negation-as-size = rw negation-read (tt, fits-le small (fits-lit tt))
+    pub negation-as-magnitude : T (nonNeg (toZ w64 (ofZ w64 negation))) × Fits w64 (natAbs (toZ w64 (ofZ w64 negation)))
+    negation-as-magnitude = rw negation-read (tt, fits-le small (fits-lit tt))
 
     pub negation-small : natAbs (toZ w64 (ofZ w64 negation)) ≤ 4_294_967_296
     negation-small = rw negation-read small
@@ -125,8 +124,8 @@ module _ (z : ℤ) (small : natAbs z ≤ 4_294_967_296) where
     not-below : ltZ z (pos 0) ≡ false
     not-below = subst (λ x. ltZ x (pos 0) ≡ false) stored-is positive
 
-    pub as-size : T (nonNeg stored) × Fits w64 (natAbs stored)
-    as-size = rw stored-is (not-negative z not-below, fits-le small (fits-lit tt))
+    pub as-magnitude : T (nonNeg stored) × Fits w64 (natAbs stored)
+    as-magnitude = rw stored-is (not-negative z not-below, fits-le small (fits-lit tt))
 
     module _ (earlier later : Milliamperes) (t : Milliseconds) (is : z ≡ earlier .0 +ℤ later .0) where
       pub no-outflow : mAms 0 ≡ mAms (negativePart (halved (flow earlier later t)))

@@ -15,12 +15,12 @@ fn sum(earlier: Milliamperes, later: Milliamperes) -> i64
     (earlier.0 as i64) + (later.0 as i64)
 }
 
-fn half(size: u64, elapsed: Milliseconds) -> Charge
-    requires { ⌜ size ≤ 4_294_967_296 ⌝ }
-    ensures is { λ c. ⌜ c ≡ mAms (size * elapsed .0 / 2) ⌝ }
+fn half(magnitude: u64, elapsed: Milliseconds) -> Charge
+    requires { ⌜ magnitude ≤ 4_294_967_296 ⌝ }
+    ensures is { λ c. ⌜ c ≡ mAms (magnitude * elapsed .0 / 2) ⌝ }
     ensures small { λ c. ⌜ c .0 ≤ 9_223_372_036_854_775_808 ⌝ }
 {
-    Charge(size * (elapsed.0 as u64) / 2)
+    Charge(magnitude * (elapsed.0 as u64) / 2)
 }
 
 // Of currents that charge on the whole. The bound is for the account that it joins.
@@ -42,8 +42,8 @@ pub fn outflow(earlier: Milliamperes, later: Milliamperes, elapsed: Milliseconds
 {
     let z = sum(earlier, later);
     if z < 0 {
-        let size = 0 - z;
-        return half(size as u64, elapsed);
+        let magnitude = 0 - z;
+        return half(magnitude as u64, elapsed);
     }
     Charge(0)
 }

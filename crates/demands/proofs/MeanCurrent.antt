@@ -16,7 +16,7 @@ use Rattle.rules.specs.Quantities.{mA, ms, mAms, elapsed}
 use Rattle.rules.specs.Test.{plausible}
 use Rattle.rules.specs.Refusals.{refusal}
 use Rattle.rules.specs.Trips.{Measured}
-use Rattle.rules.specs.Ledger.{accepted}
+use Rattle.rules.specs.Ledger.{ledger, refused, accepted}
 use Rattle.rules.specs.Accounts.{flow, halved, positivePart, negativePart, charged, discharged}
 use Rattle.rules.specs.Soundness.{accountLimit}
 use Rattle.rules.specs.Claims.{typeOr1, AfterList}
@@ -52,18 +52,23 @@ pub some-neighbours :
     (record { at = ms 0; reading = reading 3_300 3_300 (pos 60_000) (pos 250) })
     (ms 1_000) (reading 3_300 3_300 (negℤ (pos 20_000)) (pos 250))
 unfolding refusal plausible
-some-neighbours = record { past = []; newest = refl; plausible₁ = tt; plausible₂ = tt; accepted = refl }
+some-neighbours = record { past = []; newest = refl; earlierPlausible = tt; laterPlausible = tt; accepted = refl }
 
 pub some-one-more : (battery : ℕ) (calls : List Event) (e : Event)
     → OneMore CodeRun battery calls e (run (fresh battery .start) calls) (run (fresh battery .start) (calls ++ e ∷ []))
 some-one-more battery calls e = record {
-  given₁ = _;
-  given₂ = _;
+  answers₁ = _;
+  answers₂ = _;
   contactor₁ = _;
   contactor₂ = _;
   run₁ = some-run battery calls;
   run₂ = some-run battery (calls ++ e ∷ []);
 }
+
+-- and calls without such a neighbour: every refused one
+pub refused-without-neighbour : (calls : List Event) (e : Event) → ¬ (refused (ledger calls) e ≡ 0)
+    → (earlier : Measured) (t : Milliseconds) (r : Reading) → e ≡ Measurement t r → ¬ PlausibleNeighbours calls earlier t r
+refused-without-neighbour calls e refuses earlier t r is n = refuses (rw is (n .accepted))
 
 -- "Currents of 60,000 and -20,000 over 1,000 ms add 20,000,000 to charged."
 pub sixty-and-minus-twenty : (battery : ℕ) (calls : List Event) (earlier : Measured) (t : Milliseconds) (r : Reading) (before after : Record)

@@ -44,7 +44,7 @@ module _ (part : ℤ → ℕ) (calls : List Event) where
   pair-adds : (earlier : Measured) (t : Milliseconds) (r : Reading) → PlausibleNeighbours calls earlier t r
       → adds (Measurement t r) part (ledger calls) ≡ part (halved (flow (earlier .reading .current) (r .current) (elapsed (earlier .at) t)))
   pair-adds earlier t r n =
-      let added = both-plausible part earlier (n .past) (record { at = t; reading = r }) (n .plausible₁) (n .plausible₂) in
+      let added = both-plausible part earlier (n .past) (record { at = t; reading = r }) (n .earlierPlausible) (n .laterPlausible) in
       rw (n .accepted, n .newest) (ap (λ (c : Charge). c .0) added)
 
   abbrev NoNeighbours : Event → Type 0
@@ -64,7 +64,7 @@ module _ (part : ℤ → ℕ) (calls : List Event) where
   measured t r alone zero accepts (earlier ∷ past) is =
       ap (λ (c : Charge). c .0)
       (not-both part earlier past (record { at = t; reading = r })
-      (λ both. alone earlier t r refl (record { past = past; newest = is; plausible₁ = both .0; plausible₂ = both .1; accepted = accepts })))
+      (λ both. alone earlier t r refl (record { past = past; newest = is; earlierPlausible = both .0; laterPlausible = both .1; accepted = accepts })))
 
   nothing-adds : (e : Event) → NoNeighbours e → adds e part (ledger calls) ≡ 0
   nothing-adds (Measurement t r) alone = measured t r alone _ refl _ refl

@@ -13,7 +13,7 @@ use Rattle.rules.specs.Test.{plausible}
 use Rattle.rules.specs.Trips.{Measured}
 use Rattle.rules.specs.Ledger.{Ledger, Accepted}
 
--- "add the two currents, multiply by the elapsed time" (mA·ms, positive on charge)
+-- "add the two currents, multiply by the elapsed time": twice what flows, in mA·ms, positive on charge
 abbrev pub flow : (earlier later : Milliamperes) → (elapsed : Milliseconds) → ℤ
 flow earlier later t = sum earlier later .0 *ℤ pos (t .0)
 

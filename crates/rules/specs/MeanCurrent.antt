@@ -19,12 +19,12 @@ use Rattle.rules.specs.Claims.{Engine}
 
 -- two runs of one battery type: through a list, and through the same with one call more
 pub record OneMore (engine : Engine) (battery : ℕ) (calls : List Event) (e : Event) (before after : Record) : Type 0 where
-  pub given₁ : List ℕ
-  pub given₂ : List ℕ
+  pub answers₁ : List ℕ
+  pub answers₂ : List ℕ
   pub contactor₁ : Contactor
   pub contactor₂ : Contactor
-  pub run₁ : engine battery calls given₁ before contactor₁
-  pub run₂ : engine battery (calls ++ e ∷ []) given₂ after contactor₂
+  pub run₁ : engine battery calls answers₁ before contactor₁
+  pub run₂ : engine battery (calls ++ e ∷ []) answers₂ after contactor₂
 
 -- what joins each account
 pub record Grown (gained lost : Charge) (before after : Record) : Type 0 where
@@ -35,8 +35,8 @@ pub record Grown (gained lost : Charge) (before after : Record) : Type 0 where
 pub record PlausibleNeighbours (calls : List Event) (earlier : Measured) (t : Milliseconds) (r : Reading) : Type 0 where
   pub past : List Measured
   pub newest : ledger calls .measured ≡ earlier ∷ past
-  pub plausible₁ : T (plausible (earlier .reading))
-  pub plausible₂ : T (plausible r)
+  pub earlierPlausible : T (plausible (earlier .reading))
+  pub laterPlausible : T (plausible r)
   pub accepted : refused (ledger calls) (Measurement t r) ≡ 0
 
 -- "For two neighbouring measurements of a session, both plausible, add the two currents, multiply by the elapsed time, halve towards zero; a

@@ -1,5 +1,5 @@
 use borrow.Author.Needs.{needs}
-use Rattle.account.proofs.Laws.{size-small, as-size, no-inflow, is-inflow}
+use Rattle.account.proofs.Laws.{magnitude-small, as-magnitude, no-inflow, is-inflow}
 use Rattle.account.proofs.inflow.Statement.{statement}
 use Rattle.account.proofs.inflow.Tie as tie
 
@@ -10,10 +10,10 @@ returns : tie.Need-returns
 returns c = search (no-inflow, needs)
 
 cast-half : tie.Need-cast-half
-cast-half c = as-size (c .before .sum .result) (search needs) (search needs)
+cast-half c = as-magnitude (c .before .sum .result) (search needs) (search needs)
 
 half-requires : tie.Need-half-requires
-half-requires c κs = search (size-small, needs)
+half-requires c κs = search (magnitude-small, needs)
 
 returns-2 : tie.Need-returns-2
 returns-2 c = search (is-inflow, needs)

@@ -1,16 +1,16 @@
 use borrow.Author.Needs.{needs}
-use Rattle.account.proofs.Laws.{negation-fits, negation-as-size, negation-small, no-outflow, is-outflow}
+use Rattle.account.proofs.Laws.{negation-fits, negation-as-magnitude, negation-small, no-outflow, is-outflow}
 use Rattle.account.proofs.outflow.Statement.{statement}
 use Rattle.account.proofs.outflow.Tie as tie
 
 sum-requires : tie.Need-sum-requires
 sum-requires c κs = search needs
 
-sub-size : tie.Need-sub-size
-sub-size c = search (negation-fits, needs)
+sub-magnitude : tie.Need-sub-magnitude
+sub-magnitude c = search (negation-fits, needs)
 
 cast-half : tie.Need-cast-half
-cast-half c = negation-as-size (c .before .sum .result) (search needs) (search needs)
+cast-half c = negation-as-magnitude (c .before .sum .result) (search needs) (search needs)
 
 half-requires : tie.Need-half-requires
 half-requires c κs = search (negation-small, needs)
@@ -22,4 +22,4 @@ returns-2 : tie.Need-returns-2
 returns-2 c = search (no-outflow, needs)
 
 pub outflow-spec : {M : Type 1} → statement M
-outflow-spec = tie.close (tie.spec sum-requires sub-size cast-half half-requires returns returns-2)
+outflow-spec = tie.close (tie.spec sum-requires sub-magnitude cast-half half-requires returns returns-2)

@@ -1,20 +1,26 @@
 -- The accounts as the code goes through them.
 use mathlib.Core.Path.{_≡_, refl}
-use mathlib.Core.Bool.{Bool, true, false}
-use Prim.Native.Nat.{_+_, _≤_}
+use mathlib.Core.Bool.{Bool, true, false, cond}
+use Prim.Native.Nat.{ℕ, _+_, _≤_}
 use native.Mathlib.Nat.{add-zero}
 use lib.Dec.{leb, leb→le}
 use Rattle.rules.specs.declared.units.Milliamperes.{Milliamperes}
 use Rattle.rules.specs.declared.units.Milliseconds.{Milliseconds}
 use Rattle.rules.specs.declared.units.Charge.{Charge}
+use Rattle.rules.specs.declared.sensors.Reading.{Reading}
+use Rattle.rules.specs.declared.states.TestResult.the-variants.{Passed, Failed}
 use Rattle.rules.specs.declared.session.Previous.{Previous}
 use Rattle.rules.specs.declared.session.Previous.the-variants.{Nothing, Frame}
+use Rattle.rules.specs.declared.session.Watch.{Watch}
 use Rattle.rules.specs.declared.battery.Tally.{Tally}
 use Rattle.rules.specs.Quantities.{mAms, missionTime, elapsed}
 use Rattle.rules.specs.Soundness.{accountLimit}
+use Rattle.rules.specs.Test.{plausible as isPlausible}
 use Rattle.rules.specs.Accounts.{flow, halved, positivePart, negativePart}
 use Rattle.rules.proofs.Bools.{and-iff, is-true}
 use Rattle.step.specs.Charge.{charge}
+use Rattle.step.specs.Close.{hasPassed}
+use Rattle.step.specs.Track.{observe}
 use Rattle.advance.specs.Room.{accountsRoom}
 
 pub within-limits : (n : Tally) → accountsRoom n ≡ true → (n .charged .0 ≤ accountLimit missionTime .0) × (n .discharged .0 ≤ accountLimit missionTime .0)
@@ -38,3 +44,12 @@ module _ (previous : Previous) (plausible : Bool) (t : Milliseconds) (i : Millia
   pub no-neighbour : previous ≡ Nothing → n ≡ charge previous plausible t i n
   unfolding charge
   no-neighbour e = simp (e, add-zero)
+
+-- the test of a measurement says whether it is plausible
+pub passed-plausible : (battery : ℕ) (t : Milliseconds) (r : Reading) (w : Watch) → hasPassed (observe battery t r w .test) ≡ isPlausible r
+unfolding observe
+passed-plausible battery t r w = go (isPlausible r)
+  where
+    go : (b : Bool) → hasPassed (cond b Passed Failed) ≡ b
+    go true = refl
+    go false = refl

@@ -4,6 +4,7 @@ ghost use Prim.Native.Nat.{_≤_};
 ghost use Rattle.rules.specs.Quantities.{missionTime};
 ghost use Rattle.rules.specs.Soundness.{accountLimit};
 ghost use Rattle.step.specs.Charge.{charge as chargeOf};
+ghost use Rattle.step.specs.Close.{hasPassed};
 ghost use Rattle.advance.specs.Room.{accountsRoom, advanceWithin};
 use rules::battery::Control;
 use rules::battery::Live;
@@ -13,6 +14,7 @@ use rules::calls::Event;
 use rules::sensors::Reading;
 use rules::session::Previous;
 use rules::states::State;
+use rules::states::TestResult;
 use rules::units::Charge;
 use rules::units::Milliamperes;
 use rules::units::Milliseconds;
@@ -57,14 +59,26 @@ fn charge(previous: Previous, plausible: bool, t: Milliseconds, i: Milliamperes,
     }
 }
 
+// Whether the measurement was plausible is what its test says: that is not worked out again.
+fn has_passed(t: TestResult) -> bool
+    ensures { λ b. ⌜ b ≡ hasPassed t ⌝ }
+{
+    match t {
+        TestResult::NotRun => false,
+        TestResult::Passed => true,
+        TestResult::Failed => false,
+    }
+}
+
 fn measure(t: Milliseconds, r: Reading, l: Live) -> Live
     ensures { λ n. ⌜ n ≡ advanceWithin (Event.Measurement t r) l ⌝ }
 {
     if accounts_room(l.tally) {
         let before = l.watch;
         let previous = before.previous;
-        let plausible = reading::plausible(r);
         let watched = watch::observe(l.battery, t, r, before);
+        let test = watched.test;
+        let plausible = has_passed(test);
         let tally = charge(previous, plausible, t, r.current, l.tally);
         return Live {
             last: t,

@@ -26,5 +26,6 @@ pub fn run(input: i32, output: i32) {
         whole: true,
         done: false,
     };
-    parts::all(input, output, start, &mut bytes);
+    let mut text = io::large_buffer();
+    parts::all(input, output, start, &mut bytes, &mut text);
 }

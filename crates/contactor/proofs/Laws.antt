@@ -1,34 +1,29 @@
--- The contactor's test as the code makes it: what is liftable is known for each number.
-use mathlib.Core.Path.{_≡_, refl, sym}
-use mathlib.Core.Bool.{Bool, true, false, not, _&&_, _||_}
-use mathlib.Core.List.{List}
-use Prim.Native.Nat.{ℕ}
+-- The contactor's test as the code makes it: one test of the mask of those tripped.
+use mathlib.Core.Path.{_≡_, refl}
+use mathlib.Core.Bool.{Bool, true, false, not, _&&_}
+use Prim.Native.Nat.{ℕ, _<_}
+use lib.Bits.{bitAnd}
+use lib.Dec.{eqb}
 use Rattle.rules.specs.declared.states.Contactor.the-variants.{Open, Closed}
-use Rattle.rules.specs.declared.session.ProtectionState.{ProtectionState}
 use Rattle.rules.specs.declared.battery.Record.{Record}
-use Rattle.rules.specs.Protections.{rowOf}
-use Rattle.rules.specs.Shown.{keptAt}
+use Rattle.rules.specs.Protections.{rowOf, maskBelow}
+use Rattle.rules.proofs.Bits.{all-excused}
 use Rattle.step.specs.Close.{lifted, closes, contactorOf}
 
-and-true : (b : Bool) → (b && true) ≡ b
-and-true true = refl
-and-true false = refl
+module _ (battery : ℕ) where
+  -- the mask of those that hold the contactor open, by the setting of override
+  abbrev pub held : Bool → ℕ
+  held on = maskBelow (λ protection. not (on && rowOf battery protection .liftable)) 8
 
--- override lifts nothing of a protection that is not liftable
-fixed : (t on : Bool) → (not t || (on && false)) ≡ not t
-fixed true true = refl
-fixed true false = refl
-fixed false on = refl
+  pub held-on : (on : Bool) → on ≡ true → 53 ≡ held on
+  unfolding rowOf
+  held-on on e = rw e refl
 
-pub lifted-is : (battery : ℕ) (on : Bool) (p : List ProtectionState)
-    → (not (keptAt p 0 .tripped)
-    && ((not (keptAt p 1 .tripped) || on)
-    && (not (keptAt p 2 .tripped)
-    && ((not (keptAt p 3 .tripped) || on)
-    && (not (keptAt p 4 .tripped) && (not (keptAt p 5 .tripped) && ((not (keptAt p 6 .tripped) || on) && (not (keptAt p 7 .tripped) || on))))))))
-    ≡ lifted battery on p
-unfolding rowOf
-lifted-is battery on p = sym (simp (fixed, and-true))
+  pub held-off : (on : Bool) → on ≡ false → 255 ≡ held on
+  held-off on e = rw e refl
+
+  pub lifted-is : (on : Bool) (tripped m : ℕ) → tripped < 256 → m ≡ held on → eqb (bitAnd tripped m) 0 ≡ lifted battery on tripped
+  lifted-is on tripped m h e = all-excused 8 tripped m (λ protection. on && rowOf battery protection .liftable) h e
 
 pub closed : (r : Record) (b : Bool) → b ≡ closes (r .live) → b ≡ true → Closed ≡ contactorOf (r .live)
 closed r b e h = rw (← e, h) refl

@@ -1,11 +1,12 @@
 // The contactor of a record, worked out when asked.
 ghost use mathlib.Core.Path.{_≡_};
+ghost use mathlib.Core.Bool.{not, _&&_};
 ghost use Rattle.rules.specs.Contactor.{stateAndCommand};
+ghost use Rattle.rules.specs.Protections.{rowOf, maskBelow};
 ghost use Rattle.step.specs.Close.{hasPassed, lifted as liftedOf, closes as closesOf, contactorOf};
 use rules::battery::Live;
 use rules::battery::Record;
 use rules::calls::Command;
-use rules::session::ProtectionState;
 use rules::states::Contactor;
 use rules::states::State;
 use rules::states::TestResult;
@@ -40,23 +41,18 @@ fn ready(s: State, c: Command) -> bool
     }
 }
 
-// No protection holds the contactor open: 1, 3, 6 and 7 may be lifted.
-fn lifted(battery: u8, on: bool, p: [ProtectionState; 8]) -> bool
-    ensures { λ b. ⌜ b ≡ liftedOf battery on p ⌝ }
+// The protections that hold the contactor open where they are tripped: all, or with override on all but 1, 3, 6 and 7; of any type.
+fn fixed(battery: u8, on: bool) -> u8
+    ensures { λ m. ⌜ m ≡ maskBelow (λ protection. not (on && rowOf battery protection .liftable)) 8 ⌝ }
 {
-    let p0 = p[0];
-    let p1 = p[1];
-    let p2 = p[2];
-    let p3 = p[3];
-    let p4 = p[4];
-    let p5 = p[5];
-    let p6 = p[6];
-    let p7 = p[7];
-    !p0.tripped
-        & ((!p1.tripped | on)
-            & (!p2.tripped
-                & ((!p3.tripped | on)
-                    & (!p4.tripped & (!p5.tripped & ((!p6.tripped | on) & (!p7.tripped | on)))))))
+    if on { 0b0011_0101 } else { 0b1111_1111 }
+}
+
+// No tripped protection holds the contactor open.
+fn lifted(battery: u8, on: bool, tripped: u8) -> bool
+    ensures { λ b. ⌜ b ≡ liftedOf battery on tripped ⌝ }
+{
+    tripped & fixed(battery, on) == 0
 }
 
 // Whether the contactor is closed, for a caller that keeps the stores elsewhere.
@@ -68,8 +64,8 @@ pub fn closes(l: Live) -> bool
     let test = watch.test;
     let state = control.state;
     let command = control.command;
-    let protections = watch.protections;
-    (has_passed(test) & ready(state, command)) & lifted(l.battery, control.overriding, protections)
+    (has_passed(test) & ready(state, command))
+        & lifted(l.battery, control.overriding, watch.tripped)
 }
 
 pub fn contactor(r: Record) -> Contactor

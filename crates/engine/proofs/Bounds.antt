@@ -1,10 +1,10 @@
--- A sound record has room for every call that is not refused: its accounts are within the limit of the whole mission time, and a command is
--- refused at the ceiling of their count.
-use mathlib.Core.Path.{_≡_, refl, sym, subst}
+-- A record with sound accounts has room for every call that is not refused: the last time is no later than the call's, which is within the
+-- mission time, so that the accounts are within the limit of that; and a command is refused at the ceiling of their count.
+use mathlib.Core.Path.{_≡_, refl}
 use mathlib.Core.Bool.{Bool, true, false, not, cond}
 use Prim.Native.Nat.{ℕ}
 use native.Mathlib.Omega.{arith}
-use lib.Dec.{T, leb, ltb, leb→le, le→leb}
+use lib.Dec.{leb, ltb, leb→le, le→leb}
 use Rattle.rules.specs.declared.units.Milliseconds.{Milliseconds}
 use Rattle.rules.specs.declared.states.State.{State}
 use Rattle.rules.specs.declared.calls.Command.{Command}
@@ -15,26 +15,26 @@ use Rattle.rules.specs.Quantities.{_<ms_, missionTime}
 use Rattle.rules.specs.States.{isPowered, commandIn, commandCeiling, commandAllowed}
 use Rattle.rules.specs.Refusals.{refusal}
 use Rattle.rules.specs.Soundness.{accountLimit}
-use Rattle.rules.specs.Lists.{Each, _and_}
-use Rattle.rules.proofs.Lists.{all-each}
 use Rattle.rules.proofs.Bools.{and-iff, is-true}
-use Rattle.step.specs.Sound.{liveTests, soundLive}
+use Rattle.rules.proofs.CallTable.{in-time}
+use Rattle.step.specs.Sound.{soundAccounts}
 use Rattle.step.specs.Refusal.{refusalLive}
 use Rattle.advance.specs.Room.{accountsRoom, hasRoom}
 
-accounts-by : (l : Live) → soundLive l ≡ true → accountsRoom (l .tally) ≡ true
-unfolding soundLive
-accounts-by l e = go (all-each (liveTests l) .0 (subst T (sym e) tt))
-  where
-    go : Each T (liveTests l) → accountsRoom (l .tally) ≡ true
-    go (low and high and by and into and out and rest) =
-        let last = leb→le (l .last .0) (missionTime .0) by in
-        let charged = leb→le (l .tally .charged .0) (accountLimit (l .last) .0) into in
-        let discharged = leb→le (l .tally .discharged .0) (accountLimit (l .last) .0) out in
-        let limit = accountLimit missionTime .0 in
-        is-true (accountsRoom (l .tally)) .0
-        (and-iff (leb (l .tally .charged .0) limit) (leb (l .tally .discharged .0) limit) .1
-        (le→leb (l .tally .charged .0) limit (omega arith), le→leb (l .tally .discharged .0) limit (omega arith)))
+accounts-by : (l : Live) (e : Event) → soundAccounts l ≡ true → refusalLive l e ≡ 0 → accountsRoom (l .tally) ≡ true
+unfolding soundAccounts
+accounts-by l e sound accepted =
+    let most = accountLimit (l .last) .0 in
+    let limit = accountLimit missionTime .0 in
+    let time = in-time (l .control .state) (l .last) (l .tally .commands) e accepted in
+    let both = and-iff (leb (l .tally .charged .0) most) (leb (l .tally .discharged .0) most) .0 (is-true (soundAccounts l) .1 sound) in
+    let charged = leb→le (l .tally .charged .0) most (both .0) in
+    let discharged = leb→le (l .tally .discharged .0) most (both .1) in
+    is-true (accountsRoom (l .tally)) .0
+    (and-iff (leb (l .tally .charged .0) limit) (leb (l .tally .discharged .0) limit) .1 (
+      le→leb (l .tally .charged .0) limit (omega (arith, time .notBelowLast, time .notAboveMission)),
+      le→leb (l .tally .discharged .0) limit (omega (arith, time .notBelowLast, time .notAboveMission)),
+    ))
 
 -- a command that is allowed finds the count below its ceiling
 below : (s : State) (n : ℕ) (c : Command) → commandAllowed s n c ≡ true → ltb n commandCeiling ≡ true
@@ -54,8 +54,8 @@ commands-by l t c h =
     go false false false false e z = absurd (omega arith)
     go false false false true e z = below (l .control .state) (l .tally .commands) c e
 
-pub room-by : (e : Event) (l : Live) → soundLive l ≡ true → refusalLive l e ≡ 0 → hasRoom e l ≡ true
-room-by (Measurement t r) l sound accepted = accounts-by l sound
+pub room-by : (e : Event) (l : Live) → soundAccounts l ≡ true → refusalLive l e ≡ 0 → hasRoom e l ≡ true
+room-by (Measurement t r) l sound accepted = accounts-by l (Measurement t r) sound accepted
 room-by (PowerOn t) l sound accepted = refl
 room-by (PowerLoss t) l sound accepted = refl
 room-by (ContactorCommand t c) l sound accepted = commands-by l t c accepted

@@ -3,64 +3,64 @@ use mathlib.Core.Path.{_≡_, refl, sym, ap, _∙_}
 use mathlib.Core.Bool.{Bool, true, false, cond, _&&_, true≢false}
 use Prim.Native.Nat.{ℕ, zero, suc}
 use Rattle.rules.specs.declared.calls.Event.{Event}
-use Rattle.rules.specs.declared.calls.Event.the-variants.{Measurement, PowerOn, PowerLoss, ContactorCommand, StateRequest, BattleOverride, ClearLongTerm}
 use Rattle.rules.specs.declared.stores.Stores.{Stores}
 use Rattle.rules.specs.declared.battery.Live.{Live}
 use Rattle.rules.specs.declared.battery.Record.{Record}
 use Rattle.rules.specs.declared.answers.Outcome.{Outcome}
-use Rattle.step.specs.Sound.{soundLive, soundStores}
-use Rattle.step.specs.Refusal.{refusal, refusalLive}
+use Rattle.step.specs.Sound.{soundRest, soundAccounts}
+use Rattle.step.specs.Refusal.{refusal, refusalLive, refusalTested}
 use Rattle.step.specs.Call.{advanceLive, advanceStores, advance, answer, call}
-use Rattle.changes.proofs.Unchanged.{unchanged}
+use Rattle.step.proofs.Rest.{refusal-tested}
 use Rattle.advance.specs.Room.{advanceWithin}
 use Rattle.writing.specs.Changes.{changesStores}
+use Rattle.writing.proofs.Unchanged.{stores-kept}
 use Rattle.engine.proofs.Bounds.{room-by}
 use Rattle.engine.specs.declared.Judged.{Judged}
-use Rattle.engine.specs.Judging.{judgedBy, judged, joined}
+use Rattle.engine.specs.Judging.{judgedBy, judged, judgedTested, joined}
 
 -- ---- a call on the live part
 
-module _ (l : Live) (s : Stores) (e : Event) (a b : Bool) (a-is : a ≡ soundLive l) (b-is : b ≡ soundStores s) where
-  left : (x y : Bool) → (x && y) ≡ true → x ≡ true
-  left true y h = refl
-  left false y h = h
+module _ (rest : Bool) (l : Live) (e : Event) (a : Bool) (a-is : a ≡ soundAccounts l) where
+  right : (x y : Bool) → (x && y) ≡ true → y ≡ true
+  right true y h = h
+  right false y h = absurd (true≢false (sym h))
 
-  by-refusal : (k : ℕ) → refusal (record { live = l; stores = s }) e ≡ k → judgedBy k l e ≡ judged l s e
-  unfolding judged
+  by-refusal : (k : ℕ) → refusalTested rest l e ≡ k → judgedBy k l e ≡ judgedTested rest l e
+  unfolding judgedTested
   by-refusal k h = rw h refl
 
-  of-sound : (a && b) ≡ true → refusal (record { live = l; stores = s }) e ≡ refusalLive l e
-  of-sound h = rw (← a-is, ← b-is, h) refl
+  of-sound : (rest && a) ≡ true → refusalTested rest l e ≡ refusalLive l e
+  of-sound h = rw (← a-is, h) refl
 
-  module _ (fine : (a && b) ≡ true) (n : ℕ) (n-is : n ≡ refusalLive l e) where
+  module _ (fine : (rest && a) ≡ true) (n : ℕ) (n-is : n ≡ refusalLive l e) where
     pub accepted : n ≡ 0 → (after : Live) (changed : Bool) → after ≡ advanceWithin e l → changed ≡ changesStores e l after
-        → _≡_ {A = Judged} (record { refusal = 0; live = after; changed = changed }) (judged l s e)
+        → _≡_ {A = Judged} (record { refusal = 0; live = after; changed = changed }) (judgedTested rest l e)
     accepted z after changed is t =
-        let room = room-by e l (sym a-is ∙ left a b fine) (sym n-is ∙ z) in
+        let room = room-by e l (sym a-is ∙ right rest a fine) (sym n-is ∙ z) in
         let advanced : after ≡ advanceLive e l = is ∙ rw room refl in
         rw (t, advanced) (by-refusal 0 (of-sound fine ∙ sym n-is ∙ z))
 
-    pub refused : ¬ (n ≡ 0) → _≡_ {A = Judged} (record { refusal = n; live = l; changed = false }) (judged l s e)
+    pub refused : ¬ (n ≡ 0) → _≡_ {A = Judged} (record { refusal = n; live = l; changed = false }) (judgedTested rest l e)
     refused z = go n (of-sound fine ∙ sym n-is) z
       where
-        go : (k : ℕ) → refusal (record { live = l; stores = s }) e ≡ k → ¬ (k ≡ 0)
-            → _≡_ {A = Judged} (record { refusal = k; live = l; changed = false }) (judged l s e)
+        go : (k : ℕ) → refusalTested rest l e ≡ k → ¬ (k ≡ 0)
+            → _≡_ {A = Judged} (record { refusal = k; live = l; changed = false }) (judgedTested rest l e)
         go zero h z = absurd (z refl)
         go (suc k) h z = by-refusal (suc k) h
 
-  pub unsound : (a && b) ≡ false → _≡_ {A = Judged} (record { refusal = 5; live = l; changed = false }) (judged l s e)
-  unsound h = by-refusal 5 (rw (← a-is, ← b-is, h) refl)
+  pub unsound : (rest && a) ≡ false → _≡_ {A = Judged} (record { refusal = 5; live = l; changed = false }) (judgedTested rest l e)
+  unsound h = by-refusal 5 (rw (← a-is, h) refl)
+
+-- with the rest of a record's soundness it is the call on that record
+pub judged-tested : (l : Live) (s : Stores) (e : Event) → judgedTested (soundRest (record { live = l; stores = s })) l e ≡ judged l s e
+unfolding judged judgedTested
+judged-tested l s e = ap (λ (n : ℕ). judgedBy n l e) (refusal-tested _ (record { live = l; stores = s }) refl e)
+
+pub judged-here : (l : Live) (s : Stores) (e : Event) (rest : Bool) → rest ≡ soundRest (record { live = l; stores = s })
+    → (j : Judged) → j ≡ judgedTested rest l e → j ≡ judged l s e
+judged-here l s e rest is j h = h ∙ ap (λ (b : Bool). judgedTested b l e) is ∙ judged-tested l s e
 
 -- ---- the two parts together are the call
-
-stores-kept : (e : Event) (l : Live) (s : Stores) → changesStores e l (advanceLive e l) ≡ false → advanceStores e l (advanceLive e l) s ≡ s
-stores-kept (Measurement t r) l s h = unchanged (l .battery) t r (l .watch .protections) (advanceLive (Measurement t r) l .watch .protections) s h
-stores-kept (PowerOn t) l s h = absurd (true≢false h)
-stores-kept (PowerLoss t) l s h = absurd (true≢false h)
-stores-kept (ContactorCommand t c) l s h = refl
-stores-kept (StateRequest t q) l s h = refl
-stores-kept (BattleOverride t on) l s h = refl
-stores-kept (ClearLongTerm t) l s h = absurd (true≢false h)
 
 joined-is : (r : Record) (e : Event) → joined r e (judged (r .live) (r .stores) e) ≡ call r e
 unfolding judged
@@ -72,7 +72,7 @@ joined-is r e = go (refusal r e)
     written : (b : Bool) → changesStores e (r .live) (advanceLive e (r .live)) ≡ b
         → joined r e (judgedBy 0 (r .live) e) ≡ answer 0 (advance r e) r
     written true h = rw h refl
-    written false h = rw h (ap (λ (s : Stores). whole s) (sym (stores-kept e (r .live) (r .stores) h)))
+    written false h = rw h (ap (λ (s : Stores). whole s) (sym (stores-kept e (r .live) (advanceLive e (r .live)) (r .stores) h)))
 
     go : (n : ℕ) → joined r e (judgedBy n (r .live) e) ≡ answer n (advance r e) r
     go zero = written (changesStores e (r .live) (advanceLive e (r .live))) refl

@@ -1,5 +1,5 @@
-// Times the engine: reads the log that its argument names and applies it again and again, each time from a fresh record, with the stores
-// kept apart and written only where a call touches them. It prints how many events there are and how many calls are made, and for each of
+// Times the engine: reads the log that its argument names and applies it again and again, each time from a fresh record, with each store
+// kept apart and written only where a call touches it. It prints how many events there are and how many calls are made, and for each of
 // three repetitions the processor time in nanoseconds, in all and per call, and the refusals: of calls on events that were read before, and
 // of reading and calls.
 use rules::answers::ReadEvent;
@@ -39,7 +39,10 @@ fn events(input: &[u8]) -> [Slot; SLOTS] {
 // How many calls were refused. After the last event the first one follows, on the first record.
 fn call(slots: [Slot; SLOTS], count: usize, first: Record) -> usize {
     let mut live = first.live;
-    let mut stores = first.stores;
+    let stores = first.stores;
+    let mut short = stores.short;
+    let mut long = stores.long;
+    let rest = engine::rest_sound(live, stores);
     let mut refused: usize = 0;
     let mut i: usize = 0;
     let mut left = CALLS;
@@ -47,17 +50,21 @@ fn call(slots: [Slot; SLOTS], count: usize, first: Record) -> usize {
         if count <= i {
             i = 0;
             live = first.live;
-            stores = first.stores;
+            short = stores.short;
+            long = stores.long;
         }
         if SLOTS <= i {
             return refused;
         }
         let slot = slots[i];
         let e = slot.event;
-        let j = engine::judge(live, stores, e);
+        let j = engine::judge_tested(rest, live, e);
         let after = j.live;
         if j.changed {
-            stores = engine::write_stores(live, after, stores, e);
+            short = writing::advance_short(live, after, short, e);
+            if writing::changes_long(live, after, long.count, e) {
+                long = writing::advance_long(live, after, long, e);
+            }
         }
         live = after;
         if j.refusal != 0 {
@@ -72,7 +79,10 @@ fn call(slots: [Slot; SLOTS], count: usize, first: Record) -> usize {
 // The same, on events as they are read. Bytes that can't be read end the log as its end does.
 fn read_and_call(input: &[u8], first: Record) -> usize {
     let mut live = first.live;
-    let mut stores = first.stores;
+    let stores = first.stores;
+    let mut short = stores.short;
+    let mut long = stores.long;
+    let rest = engine::rest_sound(live, stores);
     let mut refused: usize = 0;
     let mut at: usize = 1;
     let mut left = CALLS;
@@ -81,13 +91,17 @@ fn read_and_call(input: &[u8], first: Record) -> usize {
         let ReadEvent::Found(e, next) = log::event_at(input, at) else {
             at = 1;
             live = first.live;
-            stores = first.stores;
+            short = stores.short;
+            long = stores.long;
             continue;
         };
-        let j = engine::judge(live, stores, e);
+        let j = engine::judge_tested(rest, live, e);
         let after = j.live;
         if j.changed {
-            stores = engine::write_stores(live, after, stores, e);
+            short = writing::advance_short(live, after, short, e);
+            if writing::changes_long(live, after, long.count, e) {
+                long = writing::advance_long(live, after, long, e);
+            }
         }
         live = after;
         if j.refusal != 0 {

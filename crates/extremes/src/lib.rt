@@ -1,6 +1,8 @@
-// The highest and lowest cell of a measurement, its hottest and coldest temperature.
+// The highest and lowest cell of a measurement, its hottest and coldest temperature; how far two cells are apart.
 ghost use mathlib.Core.List.{[], _∷_};
 ghost use mathlib.Core.Path.{_≡_};
+ghost use Prim.Native.Nat.{_-_};
+ghost use Rattle.rules.specs.Quantities.{mV};
 ghost use Rattle.rules.specs.Protections.{higher, lower, hotter, colder, picked, extremes};
 use rules::sensors::Extremes;
 use rules::sensors::Reading;
@@ -76,5 +78,15 @@ pub fn extremes(r: Reading) -> Extremes
             r.temperature2,
             r.temperature3,
         ),
+    }
+}
+
+pub fn spread(highest: Millivolts, lowest: Millivolts) -> Millivolts
+    ensures { λ v. ⌜ v ≡ mV (highest .0 - lowest .0) ⌝ }
+{
+    if lowest.0 < highest.0 {
+        Millivolts(highest.0 - lowest.0)
+    } else {
+        Millivolts(0)
     }
 }

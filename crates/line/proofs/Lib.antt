@@ -1,4 +1,4 @@
-pub mod Putting
 pub mod Digits
 pub mod Lining
-pub mod Room
+pub mod Tests
+pub mod Numbered

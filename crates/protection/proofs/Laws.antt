@@ -8,9 +8,8 @@ use borrow.Author.Tests.{leb-true, le-leb, le-ltb}
 use lib.Dec.{ltb}
 use lib.IntN.{ℤ, pos, negsuc, natAbs, _+ℤ_}
 use lib.Signed.{mag, leZ}
-use mir.Syntax.{w16, w32}
+use mir.Syntax.{w32}
 use mir.Val.{SFits}
-use mir.Facts.{sfits-widen}
 use Rattle.rules.specs.declared.units.DeciCelsius.{DeciCelsius}
 use Rattle.rules.specs.declared.units.Milliamperes.{Milliamperes}
 use Rattle.rules.specs.declared.units.Millivolts.{Millivolts}
@@ -20,7 +19,7 @@ use Rattle.rules.specs.Quantities.{mV, mA, dC, _<mV_, _≤mV_, _<mA_, _≤mA_, 
 use Rattle.rules.specs.Protections.{rowOf, permittedAt, permitted, extremes}
 use Rattle.permitted.proofs.Laws.{permitted-small}
 use Rattle.protection.specs.declared.Side.{Side}
-use Rattle.protection.specs.Rows.{chargeBound, sidesOf, valuesOf}
+use Rattle.protection.specs.Rows.{chargeBound, sidesOf}
 
 -- ---- what a current is held against as a charge
 
@@ -55,9 +54,6 @@ charge-side battery coldest i = same-side (permittedAt (natAbs (chargeRating bat
 
 -- ---- numbers that fit
 
-pub wide : {z : ℤ} → SFits w16 z → SFits w32 z
-wide f = sfits-widen tt f
-
 sub-mag : (b : Bool) (k n : ℕ) → mag (cond b (negsuc (suc n - suc k)) (pos (k - suc n))) ≤ n + k
 sub-mag true k n = omega arith
 sub-mag false k n = omega arith
@@ -83,10 +79,6 @@ sidesBy r e charge d v =
     ∷ record { beyond = mV 500 <mV v; within = v ≤mV mV 300 }
     ∷ []
 
-abbrev valuesBy : Reading → Extremes → Millivolts → List ℤ
-valuesBy r e v =
-    pos (e .highest .0) ∷ pos (e .lowest .0) ∷ e .hottest .0 ∷ e .coldest .0 ∷ r .current .0 ∷ r .current .0 ∷ r .current .0 ∷ pos (v .0) ∷ []
-
 module _ (battery : ℕ) (r : Reading) (e : Extremes) (e-is : e ≡ extremes r) (v : Millivolts) (v-is : v ≡ mV (e .highest .0 - e .lowest .0)) where
   pub sides-are : (l d : Milliamperes) → l ≡ chargeBound (permitted battery (e .coldest)) (r .current) → d ≡ negated (dischargeRating battery)
       → sidesBy r e (chargeSide l (r .current)) d v ≡ sidesOf battery r
@@ -100,8 +92,3 @@ module _ (battery : ℕ) (r : Reading) (e : Extremes) (e-is : e ≡ extremes r) 
       ∙ ap (λ (x : Milliamperes). sidesBy r e side x (mV (e .highest .0 - e .lowest .0))) d-is
       ∙ ap (λ (x : Extremes). sidesBy r x (chargeSide (permitted battery (x .coldest)) (r .current)) (negated (dischargeRating battery))
       (mV (x .highest .0 - x .lowest .0))) e-is
-
-  pub values-are : valuesBy r e v ≡ valuesOf battery r
-  unfolding valuesOf rowOf
-  values-are =
-      ap (λ (x : Millivolts). valuesBy r e x) v-is ∙ ap (λ (x : Extremes). valuesBy r x (mV (x .highest .0 - x .lowest .0))) e-is

@@ -2,8 +2,7 @@
 use mathlib.Core.Path.{_≡_, refl, sym, subst, ap, _∙_}
 use mathlib.Core.Bool.{Bool, true, false, not, cond, _&&_}
 use mathlib.Core.List.{List, [], _∷_, _++_, map}
-use native.Mathlib.Omega.{arith}
-use lib.Dec.{T, leb→le, le→leb, ltb→lt}
+use lib.Dec.{T}
 use lib.IntN.{ℤ, pos, negsuc, negℤ}
 use lib.Signed.{ltZ, leZ, ltZ-no}
 use Rattle.rules.specs.declared.sensors.Reading.{Reading}
@@ -11,24 +10,8 @@ use Rattle.rules.specs.Quantities.{mV, dC, _≤mV_, _≤dC_}
 use Rattle.rules.specs.Test.{cellInRange, currentInRange, temperatureInRange, plausible}
 use Rattle.rules.specs.Protections.{picked, otherCells, otherTemperatures, extremes}
 use Rattle.rules.specs.Lists.{all}
+use Rattle.rules.proofs.Order.{at-most-trans, below-at-most}
 use Rattle.reading.specs.Ranges.{extremesInRange}
-
--- ---- the order of figures
-
-trans : (a b c : ℤ) → T (leZ a b) → T (leZ b c) → T (leZ a c)
-trans (pos a) (pos b) (pos c) h k = le→leb a c (omega (arith, leb→le a b h, leb→le b c k))
-trans (pos a) (pos b) (negsuc c) h k = k
-trans (pos a) (negsuc b) c h k = absurd h
-trans (negsuc a) (pos b) (pos c) h k = tt
-trans (negsuc a) (pos b) (negsuc c) h k = absurd k
-trans (negsuc a) (negsuc b) (pos c) h k = tt
-trans (negsuc a) (negsuc b) (negsuc c) h k = le→leb c a (omega (arith, leb→le b a h, leb→le c b k))
-
-below : (a b : ℤ) → T (ltZ a b) → T (leZ a b)
-below (pos a) (pos b) h = le→leb a b (omega (arith, ltb→lt a b h))
-below (pos a) (negsuc b) h = h
-below (negsuc a) (pos b) h = tt
-below (negsuc a) (negsuc b) h = le→leb b a (omega (arith, ltb→lt b a h))
 
 -- ---- a test that the one picked passes exactly if all do
 
@@ -62,14 +45,14 @@ module _ {Q : Type 0} (figure : Q → ℤ) (limit : ℤ) where
   largest : (a : Q) (bs : List Q)
       → leZ (figure (picked (λ x y. cond (ltZ (figure x) (figure y)) y x) a bs)) limit ≡ all (map (λ q. leZ (figure q) limit) (a ∷ bs))
   largest = of-all (λ a b. ltZ (figure a) (figure b)) (λ q. leZ (figure q) limit)
-      (λ a b h k. trans (figure a) (figure b) limit (below (figure a) (figure b) h) k)
-      (λ a b h k. trans (figure b) (figure a) limit (ltZ-no {a = figure a} {b = figure b} h .le) k)
+      (λ a b h k. at-most-trans (figure a) (figure b) limit (below-at-most (figure a) (figure b) h) k)
+      (λ a b h k. at-most-trans (figure b) (figure a) limit (ltZ-no {a = figure a} {b = figure b} h .le) k)
 
   smallest : (a : Q) (bs : List Q)
       → leZ limit (figure (picked (λ x y. cond (ltZ (figure y) (figure x)) y x) a bs)) ≡ all (map (λ q. leZ limit (figure q)) (a ∷ bs))
   smallest = of-all (λ a b. ltZ (figure b) (figure a)) (λ q. leZ limit (figure q))
-      (λ a b h k. trans limit (figure b) (figure a) k (below (figure b) (figure a) h))
-      (λ a b h k. trans limit (figure a) (figure b) k (ltZ-no {a = figure b} {b = figure a} h .le))
+      (λ a b h k. at-most-trans limit (figure b) (figure a) k (below-at-most (figure b) (figure a) h))
+      (λ a b h k. at-most-trans limit (figure a) (figure b) k (ltZ-no {a = figure b} {b = figure a} h .le))
 
 -- ---- both ends of a range, and the three kinds of sensors
 

@@ -5,43 +5,16 @@ use rules::battery::Tally;
 use rules::limits::LONG_TERM_ENTRIES;
 use rules::limits::SHORT_TERM_ENTRIES;
 use rules::session::Previous;
-use rules::session::ProtectionState;
-use rules::session::Span;
 use rules::session::Watch;
 use rules::stores::LongTerm;
 use rules::stores::ShortTerm;
+use rules::units::Milliseconds;
 
-fn same_span(a: Span, b: Span) -> bool {
-    match a {
-        Span::Idle => match b {
-            Span::Idle => true,
-            Span::Beyond(_) => false,
-            Span::Within(_) => false,
-        },
-        Span::Beyond(x) => match b {
-            Span::Idle => false,
-            Span::Beyond(y) => x.0 == y.0,
-            Span::Within(_) => false,
-        },
-        Span::Within(x) => match b {
-            Span::Idle => false,
-            Span::Beyond(_) => false,
-            Span::Within(y) => x.0 == y.0,
-        },
-    }
-}
-
-fn same_protection(a: ProtectionState, b: ProtectionState) -> bool {
-    let x = a.span;
-    let y = b.span;
-    same_span(x, y) & (a.tripped == b.tripped)
-}
-
-fn same_protections(a: [ProtectionState; 8], b: [ProtectionState; 8]) -> bool {
+fn same_since(a: [Milliseconds; 8], b: [Milliseconds; 8]) -> bool {
     let mut same = true;
     let mut i: usize = 0;
     while i < 8 {
-        same = same & same_protection(a[i], b[i]);
+        same = same & (a[i].0 == b[i].0);
         i += 1;
     }
     same
@@ -60,12 +33,19 @@ fn same_previous(a: Previous, b: Previous) -> bool {
     }
 }
 
+// Starts that no mask tells of included.
 fn same_watch(a: Watch, b: Watch) -> bool {
-    let p = a.protections;
-    let q = b.protections;
+    let p = a.since;
+    let q = b.since;
     let x = a.previous;
     let y = b.previous;
-    (a.mask == b.mask) & (a.failed == b.failed) & same_previous(x, y) & same_protections(p, q)
+    (a.tripped == b.tripped)
+        & (a.beyond == b.beyond)
+        & (a.within == b.within)
+        & (a.mask == b.mask)
+        & (a.failed == b.failed)
+        & same_previous(x, y)
+        & same_since(p, q)
 }
 
 fn same_tally(a: Tally, b: Tally) -> bool {

@@ -6,8 +6,6 @@ use rules::battery::Tally;
 use rules::limits::LONG_TERM_ENTRIES;
 use rules::limits::SHORT_TERM_ENTRIES;
 use rules::session::Previous;
-use rules::session::ProtectionState;
-use rules::session::Span;
 use rules::session::Watch;
 use rules::states::State;
 use rules::stores::LongTerm;
@@ -102,17 +100,46 @@ pub fn previous(t: u32, i: i32) -> Record {
     with_watch(Watch { previous, ..w })
 }
 
-// A number that has no protection leaves the record as it is.
-pub fn span(protection: usize, span: Span) -> Record {
-    let w = base_watch();
-    let mut protections = w.protections;
-    if protection < 8 {
-        protections[protection] = ProtectionState {
-            span,
-            tripped: false,
-        };
+// In a mask with bit = number; 0 for a number that has no protection.
+fn weight(protection: usize) -> u8 {
+    match protection {
+        0 => 1,
+        1 => 2,
+        2 => 4,
+        3 => 8,
+        4 => 16,
+        5 => 32,
+        6 => 64,
+        7 => 128,
+        _ => 0,
     }
-    with_watch(Watch { protections, ..w })
+}
+
+fn since(protection: usize, start: Milliseconds) -> [Milliseconds; 8] {
+    let mut since = [Milliseconds(0); 8];
+    if protection < 8 {
+        since[protection] = start;
+    }
+    since
+}
+
+// A protection with a beyond span; a number that has no protection leaves the record as it is.
+pub fn beyond(protection: usize, start: u32) -> Record {
+    let w = base_watch();
+    with_watch(Watch {
+        beyond: weight(protection),
+        since: since(protection, Milliseconds(start)),
+        ..w
+    })
+}
+
+pub fn within(protection: usize, start: u32) -> Record {
+    let w = base_watch();
+    with_watch(Watch {
+        within: weight(protection),
+        since: since(protection, Milliseconds(start)),
+        ..w
+    })
 }
 
 fn with_stores(stores: Stores) -> Record {

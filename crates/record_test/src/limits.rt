@@ -12,7 +12,6 @@ use rules::battery::Record;
 use rules::calls::Event;
 use rules::limits::LONG_TERM_ENTRIES;
 use rules::limits::SHORT_TERM_ENTRIES;
-use rules::session::Span;
 use rules::units::Milliseconds;
 use testing::print;
 use testing::slice;
@@ -111,8 +110,8 @@ fn changed(head: &[u8]) -> Record {
         4 => edit::mask((n % 65_536) as u16),
         5 => edit::previous(n, 0),
         6 => edit::previous(1_000, word_reader::i32_at(head, 4)),
-        7 => edit::span(place, Span::Beyond(Milliseconds(n))),
-        8 => edit::span(place, Span::Within(Milliseconds(n))),
+        7 => edit::beyond(place, n),
+        8 => edit::within(place, n),
         9 => edit::long(n as usize, place, small),
         _ => edit::short(n as usize, place, small),
     }

@@ -146,12 +146,12 @@ fn at_clear(s: State) -> u8
     }
 }
 
-// Rows 8 to 10.
+// Rows 8 to 10. The time of a measurement has a name so that the compiler doesn't take the event apart and put it together again.
 fn by_state(s: State, commands: u32, e: Event) -> u8
     ensures { λ r. ⌜ r ≡ cond (isWrongPower s e) 8 (cond (isForbiddenRequest s e) 9 (cond (isForbiddenOther s commands e) 10 0)) ⌝ }
 {
     match e {
-        Event::Measurement(_, _) => while_powered(s),
+        Event::Measurement(_t, _) => while_powered(s),
         Event::PowerOn(_) => at_power_on(s),
         Event::PowerLoss(_) => while_powered(s),
         Event::ContactorCommand(_, c) => at_command(c, s, commands),

@@ -1,4 +1,5 @@
 pub mod Answers
+pub mod Numbering
 pub mod Going
 pub mod LastLine
 pub mod Turns

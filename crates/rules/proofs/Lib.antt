@@ -1,5 +1,7 @@
+pub mod Bits
 pub mod Bools
 pub mod Lists
+pub mod Order
 pub mod Spans
 pub mod Decide
 pub mod Mask

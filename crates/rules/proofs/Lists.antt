@@ -8,7 +8,7 @@ use native.Mathlib.Nat.{le-of-suc-le-suc, not-suc-le-zero}
 use native.Mathlib.Numerals.{add-one}
 use native.Mathlib.Omega.{arith}
 use lib.Dec.{T}
-use lib.ListN.{length, getD, take, drop, length-append, length-drop}
+use lib.ListN.{length, getD, take, drop, length-append, length-drop, length-map}
 use lib.Seq.{drop-append-le, drop-drop}
 use mir.Facts.{and-yes, yes-and}
 use Rattle.rules.specs.Lists.{tabulate, all, Each, none, _and_, lastOf}
@@ -77,6 +77,10 @@ some-place (suc n) test e = go (test zero) refl (some-place n (λ k. test (suc k
 -- ---- a tabulated list
 
 module _ {A : Type 0} where
+  -- the length of an array that is a field, which its type states of the machine's values
+  pub mapped : {B : Type 0} (f : A → B) (l : List A) (n : ℕ) → length (map f l) ≡ n → length l ≡ n
+  mapped f l n e = sym (length-map l f) ∙ e
+
   pub at-place : (n : ℕ) (f : ℕ → A) (d : A) (i : ℕ) → i < n → getD (tabulate n f) i d ≡ f i
   at-place zero f d i h = absurd (not-suc-le-zero h)
   at-place (suc n) f d zero h = refl
@@ -90,6 +94,13 @@ module _ {A : Type 0} where
   tabulate-ext zero f g h = refl
   tabulate-ext (suc n) f g h =
       ap₂ _∷_ (h zero (suc-le-suc zero-le)) (tabulate-ext n (λ k. f (suc k)) (λ k. g (suc k)) (λ i k. h (suc i) (suc-le-suc k)))
+
+  -- a list is that of what stands at its places
+  pub tabulate-places : (n : ℕ) (xs : List A) (d : A) → length xs ≡ n → xs ≡ tabulate n (λ i. getD xs i d)
+  tabulate-places zero [] d e = refl
+  tabulate-places zero (x ∷ xs) d e = absurd (omega arith)
+  tabulate-places (suc n) [] d e = absurd (omega arith)
+  tabulate-places (suc n) (x ∷ xs) d e = ap (λ (l : List A). x ∷ l) (tabulate-places n xs d (omega arith))
 
   -- its last place apart
   pub tabulate-last : (n : ℕ) (f : ℕ → A) → tabulate (suc n) f ≡ tabulate n f ++ (f n ∷ [])

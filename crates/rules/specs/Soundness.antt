@@ -7,14 +7,12 @@ use lib.IntN.{natAbs}
 use lib.ListN.{getD}
 use Rattle.rules.specs.declared.units.Milliseconds.{Milliseconds}
 use Rattle.rules.specs.declared.units.Charge.{Charge}
-use Rattle.rules.specs.declared.session.Span.{Span}
-use Rattle.rules.specs.declared.session.Span.the-variants.{Idle, Beyond, Within}
 use Rattle.rules.specs.declared.session.Previous.{Previous}
 use Rattle.rules.specs.declared.session.Previous.the-variants.{Nothing, Frame}
 use Rattle.rules.specs.declared.battery.Record.{Record}
 use Rattle.rules.specs.Quantities.{mAms, missionTime, isType}
 use Rattle.rules.specs.Test.{greatestCurrent, currentInRange}
-use Rattle.rules.specs.Shown.{keptOf}
+use Rattle.rules.specs.Shown.{Span, Idle, Beyond, Within, keptOf}
 
 -- a span start is not later than the last time
 abbrev pub StartedBy : Milliseconds → Span → Type 0

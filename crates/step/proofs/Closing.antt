@@ -17,7 +17,7 @@ use Rattle.rules.specs.Numbers.{testNumber, contactorNumber}
 use Rattle.rules.specs.Protections.{rowOf}
 use Rattle.rules.specs.Ledger.{Ledger, Accepted, testOf, isTrippedOn}
 use Rattle.rules.specs.Contactor.{Closed, ContactorsDiffer, isLifted, isClosed}
-use Rattle.rules.specs.Shown.{keptAt}
+use Rattle.rules.specs.Shown.{bitOf}
 use Rattle.rules.proofs.Lists.{tabulate-ext}
 use Rattle.rules.proofs.Closing.{is-closed, withOverride, closed-differ}
 use Rattle.step.specs.Close.{hasPassed, closes, contactorOf}
@@ -47,7 +47,7 @@ module _ (r : Record) (l : Ledger) (past : List Accepted) (k : Shows r l past) w
   closes-is : (on : Bool) → closes (overridden on (r .live)) ≡ isClosed (r .live .battery) (withOverride on l)
   unfolding closes isClosed
   closes-is on =
-      rw (passed-is (r .live .watch .test), k .watch .test, k .control .state, k .control .command, lifted-is (r .live .battery) on (λ i. keptAt (r .live .watch .protections) i .tripped) (isTrippedOn (r .live .battery) l) (λ i h. k .watch .protections i h .tripped))
+      rw (passed-is (r .live .watch .test), k .watch .test, k .control .state, k .control .command, lifted-is (r .live .battery) on (bitOf (r .live .watch .tripped)) (isTrippedOn (r .live .battery) l) (λ i h. k .watch .protections i h .tripped))
       refl
 
   pub same-closed : closes (r .live) ≡ isClosed (r .live .battery) l

@@ -1,6 +1,7 @@
 pub mod Tracking
 pub mod Sounds
 pub mod Storing
+pub mod Keeping
 pub mod Adding
 pub mod Charging
 pub mod Shows
@@ -13,3 +14,4 @@ pub mod Overrides
 pub mod Claims
 pub mod Printing
 pub mod StateMap
+pub mod Rest

@@ -12,7 +12,6 @@ use Rattle.rules.specs.declared.sensors.Reading.{Reading}
 use Rattle.rules.specs.declared.states.TestResult.the-variants.{Passed, Failed}
 use Rattle.rules.specs.declared.calls.Event.the-variants.{Measurement}
 use Rattle.rules.specs.declared.session.Watch.{Watch}
-use Rattle.rules.specs.declared.session.ProtectionState.{ProtectionState}
 use Rattle.rules.specs.declared.battery.Record.{Record}
 use Rattle.rules.specs.declared.stores.Entry.{Entry}
 use Rattle.rules.specs.Lists.{lastOf}
@@ -27,11 +26,12 @@ use Rattle.rules.specs.Stores.{since, isClear, isBorder, tripsOf, entriesOf}
 use Rattle.rules.specs.Accounts.{account, increment, positivePart, negativePart}
 use Rattle.rules.specs.Shown.{keptAt}
 use Rattle.rules.proofs.Apart.{apart}
-use Rattle.rules.proofs.Lists.{at-place, take-kept, last-kept}
-use Rattle.step.specs.Track.{trackOne, trackAll, observe}
+use Rattle.rules.proofs.Lists.{take-kept, last-kept}
+use Rattle.step.specs.Track.{observe}
 use Rattle.step.specs.Charge.{incrementFrom, charge}
 use Rattle.step.specs.Call.{advance}
 use Rattle.step.proofs.Tracking.{Ordered, all-by-later, Tracks, tracks-next}
+use Rattle.step.proofs.Keeping.{kept-observed}
 use Rattle.step.proofs.Adding.{Added, added-all}
 use Rattle.step.proofs.Charging.{increment-from, accountTime, account-time, Bounded, increment-bounded, positive-bounded, negative-bounded}
 use Rattle.step.proofs.Shows.{ShowsWatch, ShowsTally, ShowsStores, Shows}
@@ -46,13 +46,12 @@ module _ (battery : ℕ) (t : Milliseconds) (r : Reading) (taken : List Measured
   abbrev now : Measured
   now = record { at = t; reading = r }
 
-  tracked-at : (states : List ProtectionState) (protection : ℕ) → protection < 8 → Tracks (rowOf battery protection) (keptAt states protection) taken
-      → Tracks (rowOf battery protection) (keptAt (trackAll battery t r states) protection) (now ∷ taken)
-  unfolding trackAll
-  tracked-at states protection h k =
+  tracked-at : (w : Watch) (protection : ℕ) → protection < 8 → Tracks (rowOf battery protection) (keptAt w protection) taken
+      → Tracks (rowOf battery protection) (keptAt (observe battery t r w) protection) (now ∷ taken)
+  tracked-at w protection h k =
       subst (λ s. Tracks (rowOf battery protection) s (now ∷ taken))
-      (sym (at-place 8 (λ i. trackOne (rowOf battery i) t r (keptAt states i)) _ protection h))
-      (tracks-next (rowOf battery protection) (apart battery protection h) now taken o (keptAt states protection) k)
+      (sym (kept-observed battery t r w protection h))
+      (tracks-next (rowOf battery protection) (apart battery protection h) now taken o (keptAt w protection) k)
 
   observed : (w : Watch) → ShowsWatch battery w taken → ShowsWatch battery (observe battery t r w) (now ∷ taken)
   unfolding observe
@@ -61,7 +60,7 @@ module _ (battery : ℕ) (t : Milliseconds) (r : Reading) (taken : List Measured
     mask = refl;
     failed = refl;
     previous = refl;
-    protections = λ protection h. tracked-at (w .protections) protection h (k .protections protection h);
+    protections = λ protection h. tracked-at w protection h (k .protections protection h);
   }
 
 -- ---- the record
@@ -81,7 +80,7 @@ module _ (r : Record) (l : Ledger) (past : List Accepted) (k : Shows r l past) (
 
   added : Added (r .stores) (advance r (Measurement t m) .stores) (tripsOf (r .live .battery) a) (entriesOf (r .live .battery) a)
   added =
-      added-all (r .live .battery) t m (r .live .watch .protections) (observe (r .live .battery) t m (r .live .watch) .protections)
+      added-all (r .live .battery) t m (r .live .watch .tripped) (observe (r .live .battery) t m (r .live .watch) .tripped)
       (isTrippedOn (r .live .battery) l) (isTrippedOn (r .live .battery) (accept l (Measurement t m)))
       (λ i j. k .watch .protections i j .tripped) (λ i j. watched .protections i j .tripped) (r .stores) (k .stores .fits)
 

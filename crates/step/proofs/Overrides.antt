@@ -8,7 +8,7 @@ use Rattle.rules.specs.declared.calls.Event.{Event}
 use Rattle.rules.specs.declared.calls.Event.the-variants.{Measurement, PowerOn, PowerLoss, ContactorCommand, StateRequest, BattleOverride, ClearLongTerm}
 use Rattle.rules.specs.declared.battery.Record.{Record}
 use Rattle.rules.specs.Alike.{Alike, none, same, switched}
-use Rattle.step.specs.Sound.{soundLive}
+use Rattle.step.specs.Sound.{restLive, soundAccounts}
 use Rattle.rules.specs.Refusals.{refusal as refusalByTable}
 use Rattle.step.specs.Refusal.{refusal}
 use Rattle.step.specs.Call.{advance, answer, call, run, answers}
@@ -39,7 +39,7 @@ answer-refusal (suc n) a b r q = refl
 
 -- refusal doesn't look at override
 refusal-erase : (r : Record) (e : Event) → refusal r e ≡ refusal (erase r) e
-unfolding soundLive refusalByTable
+unfolding restLive soundAccounts refusalByTable
 refusal-erase r e = refl
 
 -- ---- one call

@@ -11,7 +11,6 @@ use Rattle.rules.specs.declared.calls.Event.{Event}
 use Rattle.rules.specs.declared.battery.Record.{Record}
 use Rattle.rules.specs.Quantities.{isType}
 use Rattle.rules.specs.Numbers.{stateNumber, overrideNumber, contactorNumber}
-use Rattle.rules.specs.Protections.{maskBelow}
 use Rattle.rules.specs.Ledger.{Ledger, Accepted, atFirst, enter, accepted, testOf, isTrippedOn, trippedMaskOn}
 use Rattle.rules.specs.Stores.{longTerm}
 use Rattle.rules.specs.Accounts.{charged, discharged}
@@ -20,6 +19,7 @@ use Rattle.rules.specs.Shown.{longEntry, longEntries}
 use Rattle.rules.specs.Logs.{Ending, atEnd, stopped, readLog}
 use Rattle.rules.specs.Text.{eventLine, endLine, stopLine, callLine, callLines, lastLine, logText, text}
 use Rattle.rules.proofs.Lists.{length-tabulate}
+use Rattle.rules.proofs.Bits.{mask-same}
 use Rattle.rules.proofs.Bools.{is-true}
 use Rattle.step.specs.Fresh.{freshRecord}
 use Rattle.step.specs.Close.{contactorOf}
@@ -35,10 +35,6 @@ use Rattle.step.proofs.Claims.{same-known}
 contactor-digit : (b : Bool) → contactorNumber (cond b IsClosed Open) ≡ cond b 1 0
 contactor-digit true = refl
 contactor-digit false = refl
-
-mask-same : (n : ℕ) (f g : ℕ → Bool) → ((k : ℕ) → k < n → f k ≡ g k) → maskBelow f n ≡ maskBelow g n
-mask-same zero f g h = refl
-mask-same (suc n) f g h = rw (mask-same n f g (λ k below. h k (omega (arith, below))), h n (omega arith)) refl
 
 -- what the rules print of a ledger
 abbrev ledgerLine : ℕ → ℕ → ℕ → Ledger → List ℕ

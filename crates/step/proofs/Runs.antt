@@ -64,7 +64,7 @@ shows-sound r l past k = record {
   charged = rw (k .last) (omega (arith, k .tally .chargedBy, bound));
   discharged = rw (k .last) (omega (arith, k .tally .dischargedBy, bound));
   spans = λ protection h. rw (k .last)
-      (tracks-by (rowOf (r .live .battery) protection) (keptAt (r .live .watch .protections) protection) (l .measured) (l .last) (k .timed .by) (k .watch .protections protection h));
+      (tracks-by (rowOf (r .live .battery) protection) (keptAt (r .live .watch) protection) (l .measured) (l .last) (k .timed .by) (k .watch .protections protection h));
   previous = rw (k .last, k .watch .previous) (previous-by (l .last) (l .measured) (k .timed .by));
   current = rw (k .watch .previous) (previous-kept (l .measured));
 }

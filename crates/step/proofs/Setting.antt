@@ -24,7 +24,8 @@ use Rattle.rules.specs.Ledger.{Ledger, accept, border, Accepted, entered}
 use Rattle.rules.specs.Stores.{since, isClear, isBorder, tripsOf, entriesOf, longTerm, shortTerm}
 use Rattle.rules.specs.Accounts.{charged, discharged}
 use Rattle.rules.specs.Shown.{longEntries, shortEntries}
-use Rattle.step.specs.Call.{setLive, borderLive, borderStores, requestControl, advance}
+use Rattle.step.specs.Fresh.{noShortTerm}
+use Rattle.step.specs.Call.{setLive, borderLive, requestControl, advance}
 use Rattle.step.proofs.Tracking.{all-by-later}
 use Rattle.step.proofs.Charging.{accountTime, account-time, account-going}
 use Rattle.step.proofs.Shows.{ShowsControl, ShowsTally, ShowsStores, Timed, Shows, watch-none, long-none, short-none}
@@ -129,7 +130,7 @@ module _ (r : Record) (l : Ledger) (past : List Accepted) (k : Shows r l past) (
   pub bordered : (s : State) (more : Accepted) → AddsNothing more
       → longTerm (r .live .battery) (more ∷ past) ≡ take 64 (since isClear (tripsOf (r .live .battery)) past ++ [])
       → shortTerm (r .live .battery) (more ∷ past) ≡ []
-      → Shows (record { live = borderLive s t (r .live); stores = borderStores (r .stores) }) (border s t l) (more ∷ past)
+      → Shows (record { live = borderLive s t (r .live); stores = record { short = noShortTerm; long = r .stores .long } }) (border s t l) (more ∷ past)
   unfolding shortEntries
   bordered s more adds long short = record {
     battery = k .battery;

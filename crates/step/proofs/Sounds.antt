@@ -10,18 +10,18 @@ use borrow.Author.Tests.{eqb-false}
 use lib.Dec.{T, leb, eqb, leb→le, le→leb, ltb→lt, lt→ltb, eqb→eq}
 use lib.ListN.{getD}
 use Rattle.rules.specs.declared.units.Milliseconds.{Milliseconds}
-use Rattle.rules.specs.declared.session.Span.{Span}
-use Rattle.rules.specs.declared.session.Span.the-variants.{Idle, Beyond, Within}
+use Rattle.rules.specs.declared.units.Charge.{Charge}
 use Rattle.rules.specs.declared.session.Previous.{Previous}
 use Rattle.rules.specs.declared.session.Previous.the-variants.{Nothing, Frame}
 use Rattle.rules.specs.declared.battery.Record.{Record}
 use Rattle.rules.specs.Quantities.{isType}
-use Rattle.rules.specs.Shown.{keptOf, keptAt}
-use Rattle.rules.specs.Soundness.{Sound, StartedBy, MeasuredBy, KeptInRange, ProtectionsBelow8}
+use Rattle.rules.specs.Shown.{Span, Idle, Beyond, Within, keptOf, keptAt}
+use Rattle.rules.specs.Soundness.{accountLimit, Sound, StartedBy, MeasuredBy, KeptInRange, ProtectionsBelow8}
 use Rattle.rules.specs.Lists.{all, tabulate, Each, none, _and_}
 use Rattle.rules.proofs.Bools.{and-iff}
 use Rattle.rules.proofs.Lists.{all-each, all-places}
-use Rattle.step.specs.Sound.{startedBy, measuredBy, currentKept, below8, liveTests, storesTests, soundLive, soundStores, sound}
+use Rattle.step.specs.Sound.{startedBy, measuredBy, currentKept, below8, restTests, storesTests}
+use Rattle.step.specs.Sound.{restLive, soundStores, soundRest, soundAccounts, sound}
 
 -- ---- a battery type
 
@@ -80,15 +80,19 @@ kept-is (Frame t i) = (λ h. h, λ h. h)
 -- ---- the record
 
 module _ (r : Record) where
-  spans : T (all (tabulate 8 (λ protection. startedBy (r .live .last) (keptAt (r .live .watch .protections) protection .span))))
+  spans : T (all (tabulate 8 (λ protection. startedBy (r .live .last) (keptAt (r .live .watch) protection .span))))
       ↔ ((protection : ℕ) → protection < 8 → StartedBy (r .live .last) (keptOf r protection .span))
   spans =
-      let every = all-places 8 (λ protection. startedBy (r .live .last) (keptAt (r .live .watch .protections) protection .span)) in
+      let every = all-places 8 (λ protection. startedBy (r .live .last) (keptAt (r .live .watch) protection .span)) in
       (λ h protection k. started-is (r .live .last) (keptOf r protection .span) .0 (every .0 h protection k), λ f. every .1 (λ protection k. started-is (r .live .last) (keptOf r protection .span) .1 (f protection k)))
 
-  to : Each T (liveTests (r .live)) → Each T (storesTests (r .stores)) → Sound r
-  to (low and high and last and charged and discharged and mask and measured and current and started and none)
-      (long and short and longs and shorts and none) = record {
+  abbrev within : Charge → Bool
+  within account = leb (account .0) (accountLimit (r .live .last) .0)
+
+  to : Each T (restTests (r .live)) → Each T (storesTests (r .stores))
+      → T (within (r .live .tally .charged)) × T (within (r .live .tally .discharged)) → Sound r
+  to (low and high and last and mask and measured and current and started and none)
+      (long and short and longs and shorts and none) (charged, discharged) = record {
         battery = type-is (r .live .battery) .0 (low, high);
         lastTime = leb→le _ _ last;
         longCount = leb→le _ _ long;
@@ -103,14 +107,12 @@ module _ (r : Record) where
         current = kept-is (r .live .watch .previous) .0 current;
       }
 
-  live-from : Sound r → Each T (liveTests (r .live))
+  live-from : Sound r → Each T (restTests (r .live))
   live-from s =
       let type = type-is (r .live .battery) .1 (s .battery) in
       type .0
       and type .1
       and le→leb _ _ (s .lastTime)
-      and le→leb _ _ (s .charged)
-      and le→leb _ _ (s .discharged)
       and lt→ltb _ _ (s .mask)
       and measured-is (r .live .last) (r .live .watch .previous) .1 (s .previous)
       and kept-is (r .live .watch .previous) .1 (s .current)
@@ -126,9 +128,15 @@ module _ (r : Record) where
       and none
 
   pub sound-is : T (sound r) ↔ Sound r
-  unfolding soundLive soundStores
+  unfolding restLive soundStores soundAccounts
   sound-is =
-      let parts = and-iff (all (liveTests (r .live))) (all (storesTests (r .stores))) in (
-        λ h. to (all-each (liveTests (r .live)) .0 (parts .0 h .0)) (all-each (storesTests (r .stores)) .0 (parts .0 h .1)),
-        λ s. parts .1 (all-each (liveTests (r .live)) .1 (live-from s), all-each (storesTests (r .stores)) .1 (stores-from s)),
+      let whole = and-iff (soundRest r) (soundAccounts (r .live)) in
+      let parts = and-iff (all (restTests (r .live))) (all (storesTests (r .stores))) in
+      let accounts = and-iff (within (r .live .tally .charged)) (within (r .live .tally .discharged)) in (
+        λ h. to (all-each (restTests (r .live)) .0 (parts .0 (whole .0 h .0) .0))
+            (all-each (storesTests (r .stores)) .0 (parts .0 (whole .0 h .0) .1)) (accounts .0 (whole .0 h .1)),
+        λ s. whole .1 (
+          parts .1 (all-each (restTests (r .live)) .1 (live-from s), all-each (storesTests (r .stores)) .1 (stores-from s)),
+          accounts .1 (le→leb _ _ (s .charged), le→leb _ _ (s .discharged)),
+        ),
       )

@@ -4,8 +4,6 @@ use mathlib.Core.Bool.{Bool, true, false, cond, and-false}
 use Prim.Native.Nat.{ℕ, _≤_}
 use native.Mathlib.Omega.{arith}
 use Rattle.rules.specs.declared.units.Milliseconds.{Milliseconds}
-use Rattle.rules.specs.declared.session.Span.{Span}
-use Rattle.rules.specs.declared.session.Span.the-variants.{Idle, Beyond, Within}
 use Rattle.rules.specs.declared.session.Previous.{Previous}
 use Rattle.rules.specs.declared.session.Previous.the-variants.{Nothing, Frame}
 use Rattle.rules.specs.declared.states.State.the-variants.{Dormant, Maintenance}
@@ -20,7 +18,7 @@ use Rattle.rules.specs.Calls.{timeOf}
 use Rattle.rules.specs.Numbers.{contactorNumber}
 use Rattle.rules.specs.Refusals.{InTime}
 use Rattle.rules.specs.Ledger.{ifAccepted}
-use Rattle.rules.specs.Shown.{keptOf}
+use Rattle.rules.specs.Shown.{Span, Idle, Beyond, Within, keptOf}
 use Rattle.rules.specs.Soundness.{StartedBy, MeasuredBy, Sound}
 use Rattle.rules.specs.StateMap.{stateOf, LeftByRequest, ShortcutAccepted, TwoSteps, AsBefore, ShortcutOpens, ByWiderMap}
 use Rattle.rules.proofs.Bools.{is-true}

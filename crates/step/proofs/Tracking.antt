@@ -9,16 +9,13 @@ use native.Mathlib.Omega.{arith}
 use lib.Dec.{T, leb, leb→le, le→leb}
 use Rattle.rules.specs.declared.units.Milliseconds.{Milliseconds}
 use Rattle.rules.specs.declared.sensors.Reading.{Reading}
-use Rattle.rules.specs.declared.session.Span.{Span}
-use Rattle.rules.specs.declared.session.Span.the-variants.{Idle, Beyond, Within}
-use Rattle.rules.specs.declared.session.ProtectionState.{ProtectionState}
 use Rattle.rules.specs.Quantities.{_≤ms_, elapsed}
 use Rattle.rules.specs.Soundness.{StartedBy}
 use Rattle.rules.specs.Test.{plausible}
 use Rattle.rules.specs.Protections.{Protection}
 use Rattle.rules.specs.Trips.{Measured, time, passes, reaches, endsNow, isTripped}
 use Rattle.rules.proofs.Bools.{and-iff}
-use Rattle.rules.specs.Shown.{clearState}
+use Rattle.rules.specs.Shown.{Span, Idle, Beyond, Within, ProtectionState, clearState}
 use Rattle.step.specs.Track.{spanAt, trippedAt, tracked, trackOne}
 
 -- ---- the times of measurements, newest first

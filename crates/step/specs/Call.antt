@@ -14,6 +14,8 @@ use Rattle.rules.specs.declared.calls.Event.the-variants.{Measurement, PowerOn,
 use Rattle.rules.specs.declared.battery.Control.{Control}
 use Rattle.rules.specs.declared.battery.Tally.{Tally}
 use Rattle.rules.specs.declared.battery.Live.{Live}
+use Rattle.rules.specs.declared.stores.LongTerm.{LongTerm}
+use Rattle.rules.specs.declared.stores.ShortTerm.{ShortTerm}
 use Rattle.rules.specs.declared.stores.Stores.{Stores}
 use Rattle.rules.specs.declared.battery.Record.{Record}
 use Rattle.rules.specs.declared.answers.Outcome.{Outcome}
@@ -22,7 +24,7 @@ use Rattle.rules.specs.Test.{plausible}
 use Rattle.step.specs.Fresh.{noWatch, controlIn, noShortTerm, noLongTerm}
 use Rattle.step.specs.Refusal.{refusal}
 use Rattle.step.specs.Track.{observe}
-use Rattle.step.specs.Push.{pushAll}
+use Rattle.step.specs.Push.{pushLongs, pushShorts}
 use Rattle.step.specs.Charge.{charge}
 
 -- ---- what an accepted call makes of the live part
@@ -39,9 +41,6 @@ measureLive t r l = record {
 -- the border of a session: what power on and power loss write anew; type, tally and the long-term store stay
 abbrev pub borderLive : State → Milliseconds → Live → Live
 borderLive s t l = record { battery = l .battery; last = t; control = controlIn s; watch = noWatch; tally = l .tally }
-
-abbrev pub borderStores : Stores → Stores
-borderStores s = record { short = noShortTerm; long = s .long }
 
 -- a call that sets nothing but these
 abbrev pub setLive : Milliseconds → Control → Tally → Live → Live
@@ -84,13 +83,19 @@ byKind measurement border clear other (StateRequest t q) = other
 byKind measurement border clear other (BattleOverride t on) = other
 byKind measurement border clear other (ClearLongTerm t) = clear
 
+abbrev pub advanceLong : Event → Live → Live → LongTerm → LongTerm
+advanceLong e before after s =
+    byKind (λ t r. pushLongs (before .battery) t r (before .watch .tripped) (after .watch .tripped) s) s noLongTerm s e
+
+abbrev pub advanceShort : Event → Live → Live → ShortTerm → ShortTerm
+advanceShort e before after s =
+    byKind (λ t r. pushShorts (before .battery) t r (before .watch .tripped) (after .watch .tripped) s) noShortTerm s s e
+
 abbrev pub advanceStores : Event → Live → Live → Stores → Stores
-advanceStores e before after s =
-    byKind (λ t r. pushAll (before .battery) t r (before .watch .protections) (after .watch .protections) s)
-    (borderStores s)
-    (record { short = s .short; long = noLongTerm })
-    s
-    e
+advanceStores e before after s = record {
+  short = advanceShort e before after (s .short);
+  long = advanceLong e before after (s .long);
+}
 
 abbrev pub advance : Record → Event → Record
 advance r e = record {

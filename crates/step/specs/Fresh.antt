@@ -16,10 +16,18 @@ use Rattle.rules.specs.declared.battery.Control.{Control}
 use Rattle.rules.specs.declared.battery.Tally.{Tally}
 use Rattle.rules.specs.declared.battery.Record.{Record}
 use Rattle.rules.specs.declared.answers.Fresh.{Fresh}
-use Rattle.rules.specs.Shown.{clearState}
 
 abbrev pub noWatch : Watch
-noWatch = record { test = NotRun; mask = 0; failed = 0; previous = Nothing; protections = replicate 8 clearState }
+noWatch = record {
+  test = NotRun;
+  tripped = 0;
+  beyond = 0;
+  within = 0;
+  mask = 0;
+  failed = 0;
+  previous = Nothing;
+  since = replicate 8 (record { 0 = 0 });
+}
 
 abbrev pub controlIn : State → Control
 controlIn s = record { state = s; command = Automated; overriding = false }

@@ -5,8 +5,6 @@ use mathlib.Core.List.{List, [], _∷_}
 use lib.Dec.{leb, ltb}
 use lib.ListN.{getD}
 use Rattle.rules.specs.declared.units.Milliseconds.{Milliseconds}
-use Rattle.rules.specs.declared.session.Span.{Span}
-use Rattle.rules.specs.declared.session.Span.the-variants.{Idle, Beyond, Within}
 use Rattle.rules.specs.declared.session.Previous.{Previous}
 use Rattle.rules.specs.declared.session.Previous.the-variants.{Nothing, Frame}
 use Rattle.rules.specs.declared.session.Watch.{Watch}
@@ -17,7 +15,7 @@ use Rattle.rules.specs.Quantities.{_≤ms_, missionTime}
 use Rattle.rules.specs.Test.{currentInRange}
 use Rattle.rules.specs.Soundness.{accountLimit}
 use Rattle.rules.specs.Lists.{tabulate, all}
-use Rattle.rules.specs.Shown.{keptAt}
+use Rattle.rules.specs.Shown.{Span, Idle, Beyond, Within, keptAt}
 
 abbrev pub startedBy : Milliseconds → Span → Bool
 startedBy last Idle = true
@@ -43,17 +41,12 @@ watchTests last w =
     ltb (w .mask) 8_192
     ∷ measuredBy last (w .previous)
     ∷ currentKept (w .previous)
-    ∷ all (tabulate 8 (λ protection. startedBy last (keptAt (w .protections) protection .span)))
+    ∷ all (tabulate 8 (λ protection. startedBy last (keptAt w protection .span)))
     ∷ []
 
-abbrev pub liveTests : Live → List Bool
-liveTests l =
-    leb 1 (l .battery)
-    ∷ leb (l .battery) 3
-    ∷ (l .last ≤ms missionTime)
-    ∷ leb (l .tally .charged .0) (accountLimit (l .last) .0)
-    ∷ leb (l .tally .discharged .0) (accountLimit (l .last) .0)
-    ∷ watchTests (l .last) (l .watch)
+-- the live part, but for its accounts
+abbrev pub restTests : Live → List Bool
+restTests l = leb 1 (l .battery) ∷ leb (l .battery) 3 ∷ (l .last ≤ms missionTime) ∷ watchTests (l .last) (l .watch)
 
 abbrev pub storesTests : Stores → List Bool
 storesTests s =
@@ -63,11 +56,19 @@ storesTests s =
     ∷ below8 (s .short .count) (s .short .protections)
     ∷ []
 
-unfoldable pub soundLive : Live → Bool
-soundLive l = all (liveTests l)
+unfoldable pub restLive : Live → Bool
+restLive l = all (restTests l)
 
 unfoldable pub soundStores : Stores → Bool
 soundStores s = all (storesTests s)
 
+-- what no call changes, accepted or refused (proofs/Rest)
+abbrev pub soundRest : Record → Bool
+soundRest r = restLive (r .live) && soundStores (r .stores)
+
+-- and the accounts, which an accepted call can take past their limit: one that is at it, by charge since a measurement before the last time
+unfoldable pub soundAccounts : Live → Bool
+soundAccounts l = leb (l .tally .charged .0) (accountLimit (l .last) .0) && leb (l .tally .discharged .0) (accountLimit (l .last) .0)
+
 abbrev pub sound : Record → Bool
-sound r = soundLive (r .live) && soundStores (r .stores)
+sound r = soundRest r && soundAccounts (r .live)

@@ -2,62 +2,20 @@
 ghost use mathlib.Core.Path.{_≡_};
 ghost use mathlib.Core.Bool.{cond};
 ghost use Rattle.rules.specs.declared.states.TestResult.the-variants.{Passed, Failed as TestFailed};
-ghost use Rattle.rules.specs.declared.session.Previous.the-variants.{Nothing, Frame};
+ghost use lib.Count.{ones};
 ghost use Rattle.rules.specs.Test.{failedMask};
-ghost use Rattle.step.specs.Track.{observe as observeOf};
-ghost use Rattle.watch.specs.Sides.{trackBy, trackSides};
-use protection::Side;
+ghost use Rattle.step.specs.Track.{previousBy, observe as observeOf};
+ghost use Rattle.watch.specs.Kept.{keptBy, isSettled, calmed};
 use rules::sensors::Reading;
 use rules::session::Previous;
-use rules::session::ProtectionState;
 use rules::session::Watch;
 use rules::states::TestResult;
 use rules::units::Milliamperes;
 use rules::units::Milliseconds;
-
-fn track_protection(
-    protection: u8,
-    plausible: bool,
-    side: Side,
-    t: Milliseconds,
-    s: ProtectionState,
-) -> ProtectionState
-    ensures { λ r. ⌜ r ≡ trackBy protection plausible side t s ⌝ }
-{
-    let hold = holds::hold(protection);
-    let release = holds::release(protection);
-    tracking::track(
-        plausible & side.beyond,
-        plausible & side.within,
-        hold,
-        release,
-        t,
-        s,
-    )
-}
-
-fn track_sides(
-    plausible: bool,
-    sides: [Side; 8],
-    t: Milliseconds,
-    states: [ProtectionState; 8],
-) -> [ProtectionState; 8]
-    ensures { λ a. ⌜ a ≡ trackSides plausible sides t states ⌝ }
-{
-    [
-        track_protection(0, plausible, sides[0], t, states[0]),
-        track_protection(1, plausible, sides[1], t, states[1]),
-        track_protection(2, plausible, sides[2], t, states[2]),
-        track_protection(3, plausible, sides[3], t, states[3]),
-        track_protection(4, plausible, sides[4], t, states[4]),
-        track_protection(5, plausible, sides[5], t, states[5]),
-        track_protection(6, plausible, sides[6], t, states[6]),
-        track_protection(7, plausible, sides[7], t, states[7]),
-    ]
-}
+use tracking::Kept;
 
 fn previous_of(plausible: bool, t: Milliseconds, i: Milliamperes) -> Previous
-    ensures { λ p. ⌜ p ≡ cond plausible (Frame t i) Nothing ⌝ }
+    ensures { λ p. ⌜ p ≡ previousBy plausible t i ⌝ }
 {
     if plausible {
         return Previous::Frame(t, i);
@@ -84,22 +42,102 @@ fn mask_of(plausible: bool, r: Reading) -> u16
     reading::failed_mask(r)
 }
 
-pub fn observe(battery: u8, t: Milliseconds, r: Reading, w: Watch) -> Watch
+// Nor are its failed sensors counted.
+fn count_of(mask: u16) -> u32
+    ensures { λ n. ⌜ n ≡ ones mask ⌝ }
+{
+    if mask == 0 {
+        0
+    } else {
+        reading::failed_count(mask)
+    }
+}
+
+// The sides of a measurement that is not plausible are not asked.
+fn if_plausible(plausible: bool, side: u8) -> u8
+    ensures { λ m. ⌜ m ≡ cond plausible side 0 ⌝ }
+{
+    if plausible { side } else { 0 }
+}
+
+fn kept(w: Watch) -> Kept
+    ensures { λ k. ⌜ k ≡ keptBy w ⌝ }
+{
+    let since = w.since;
+    Kept {
+        tripped: w.tripped,
+        beyond: w.beyond,
+        within: w.within,
+        since,
+    }
+}
+
+// Every protection is in a within span, and none is tripped.
+fn settled(w: Watch) -> bool
+    ensures { λ b. ⌜ b ≡ isSettled w ⌝ }
+{
+    ((w.beyond | w.tripped) == 0) & (w.within == 255)
+}
+
+// After a measurement within the limits of every protection, which is plausible then. Where that was so before, nothing is tracked anew.
+fn calm(t: Milliseconds, i: Milliamperes, w: Watch) -> Watch
+    ensures { λ n. ⌜ n ≡ calmed t i w ⌝ }
+{
+    let previous = Previous::Frame(t, i);
+    if settled(w) {
+        return Watch {
+            test: TestResult::Passed,
+            mask: 0,
+            failed: 0,
+            previous,
+            ..w
+        };
+    }
+    let k = tracking::track(0, 255, t, kept(w));
+    let since = k.since;
+    Watch {
+        test: TestResult::Passed,
+        tripped: k.tripped,
+        beyond: k.beyond,
+        within: k.within,
+        mask: 0,
+        failed: 0,
+        previous,
+        since,
+    }
+}
+
+// From the sides of the limits on which the measurement lies.
+fn by_sides(battery: u8, t: Milliseconds, r: Reading, w: Watch) -> Watch
     ensures { λ n. ⌜ n ≡ observeOf battery t r w ⌝ }
 {
     let plausible = reading::plausible(r);
     let mask = mask_of(plausible, r);
-    let failed = reading::failed_count(mask);
+    let failed = count_of(mask);
     let sides = protection::sides(battery, r);
-    let states = w.protections;
-    let protections = track_sides(plausible, sides, t, states);
+    let beyond = if_plausible(plausible, sides.beyond);
+    let within = if_plausible(plausible, sides.within);
+    let k = tracking::track(beyond, within, t, kept(w));
+    let since = k.since;
     let test = test_of(plausible);
     let previous = previous_of(plausible, t, r.current);
     Watch {
         test,
+        tripped: k.tripped,
+        beyond: k.beyond,
+        within: k.within,
         mask,
         failed,
         previous,
-        protections,
+        since,
     }
+}
+
+pub fn observe(battery: u8, t: Milliseconds, r: Reading, w: Watch) -> Watch
+    ensures { λ n. ⌜ n ≡ observeOf battery t r w ⌝ }
+{
+    if calm::is_calm(battery, r) {
+        return calm(t, r.current, w);
+    }
+    by_sides(battery, t, r, w)
 }

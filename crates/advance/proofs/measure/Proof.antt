@@ -1,5 +1,6 @@
+-- Where the accounts have room, what is watched and the accounts after the measurement.
 use mathlib.Core.Path.{sym, _∙_}
-use Rattle.advance.proofs.Laws.{within-limits}
+use Rattle.advance.proofs.Laws.{within-limits, passed-plausible}
 use borrow.Author.Needs.{needs}
 use Rattle.advance.proofs.measure.Statement.{statement}
 use Rattle.advance.proofs.measure.Tie as tie
@@ -7,21 +8,29 @@ use Rattle.advance.proofs.measure.Tie as tie
 accounts-room-requires : tie.Need-accounts-room-requires
 accounts-room-requires c κs = search needs
 
-plausible-requires : tie.Need-plausible-requires
-plausible-requires c κs = search needs
-
 observe-requires : tie.Need-observe-requires
 observe-requires c κs = search needs
+
+has-passed-requires : tie.Need-has-passed-requires
+has-passed-requires c κs = search needs
 
 charge-requires : tie.Need-charge-requires
 charge-requires c κs = let d = c .before .before .before in within-limits (d .before .before .args .l .tally) (sym (d .before .accounts-room .ensures) ∙ d .if1 .taken)
 
 returns : tie.Need-returns
 returns c =
-    let d = c .before .before in
-    let tested = d .before .before .before in
+    let passed = c .before .before in
+    let watched = passed .before in
+    let tested = watched .before .before in
+    let v = tested .before .before .args in
     let room = sym (tested .before .accounts-room .ensures) ∙ tested .if1 .taken in
-    rw (room, d .observe .ensures, c .before .charge .ensures, d .before .plausible .ensures)
+    rw (
+      room,
+      c .before .charge .ensures,
+      passed .has-passed .ensures,
+      watched .observe .ensures,
+      passed-plausible (v .l .battery) (v .t) (v .r) (v .l .watch),
+    )
 
 returns-2 : tie.Need-returns-2
 returns-2 c = let full = sym (c .before .accounts-room .ensures) ∙ c .if1 .left in rw full
@@ -31,8 +40,8 @@ measure-spec =
     tie.close
     (tie.spec
     accounts-room-requires
-    plausible-requires
     observe-requires
+    has-passed-requires
     charge-requires
     returns
     returns-2)

@@ -39,11 +39,17 @@ close-requires c κs = search needs
 returns-2 : tie.Need-returns-2
 returns-2 c = search needs
 
+large-buffer-requires-2 : tie.Need-large-buffer-requires-2
+large-buffer-requires-2 c κs = search needs
+
 slice-aggregate-all : tie.Need-slice-aggregate-all
 slice-aggregate-all c = search needs
 
+slice-aggregate-all-2 : tie.Need-slice-aggregate-all-2
+slice-aggregate-all-2 c = search needs
+
 all-requires : tie.Need-all-requires
-all-requires c κs = (not-empty _ _ (c .before .if2 .left), search needs)
+all-requires c κs = ((not-empty _ _ (c .before .before .before .if2 .left), search needs), search needs)
 
 returns-3 : tie.Need-returns-3
 returns-3 c = search needs
@@ -64,6 +70,8 @@ run-spec =
     opening-requires
     close-requires
     returns-2
+    large-buffer-requires-2
     slice-aggregate-all
+    slice-aggregate-all-2
     all-requires
     returns-3)

@@ -4,12 +4,7 @@ use Rattle.contactor.proofs.lifted.Statement.{statement}
 use Rattle.contactor.proofs.lifted.Tie as tie
 
 returns : tie.Need-returns
-returns c =
-    let start = c .before .before .before .before .before .before .before .before .before .before .before .before .before .before .before .before in
-    lifted-is (start .args .battery) (start .args .on) (start .args .t3)
+returns c = search (lifted-is, needs)
 
 pub lifted-spec : {M : Type 1} → statement M
-lifted-spec =
-    tie.close
-    (tie.spec (λ c. search needs) (λ c. search needs) (λ c. search needs) (λ c. search needs)
-    (λ c. search needs) (λ c. search needs) (λ c. search needs) (λ c. search needs) returns)
+lifted-spec = tie.close (tie.spec (λ c κs. search needs) returns)

@@ -3,10 +3,13 @@ use Rattle.engine_bench.proofs.call.Statement.{statement}
 use Rattle.engine_bench.proofs.call.Tie as tie
 
 abbrev Inv-loop : tie.InvT-loop
-Inv-loop count first slots live₀ stores₀ refused₀ i₀ left₀ live stores refused i left = Unit {0}
+Inv-loop count first slots live₀ stores short₀ long₀ rest refused₀ i₀ left₀ live short long refused i left = Unit {0}
 
 abbrev μ-loop : tie.MeasureT-loop
-μ-loop count first slots live₀ stores₀ refused₀ i₀ left₀ live stores refused i left = left
+μ-loop count first slots live₀ stores short₀ long₀ rest refused₀ i₀ left₀ live short long refused i left = left
+
+rest-sound-requires : tie.Need-rest-sound-requires Inv-loop μ-loop
+rest-sound-requires c κs = search needs
 
 loop-holds : tie.Need-loop-holds Inv-loop μ-loop
 loop-holds c = search needs
@@ -20,11 +23,17 @@ mul-slot c = search needs
 array-copy-out-slot : tie.Need-array-copy-out-slot Inv-loop μ-loop
 array-copy-out-slot c = search needs
 
-judge-requires : tie.Need-judge-requires Inv-loop μ-loop
-judge-requires c κs = search needs
+judge-tested-requires : tie.Need-judge-tested-requires Inv-loop μ-loop
+judge-tested-requires c κs = search needs
 
-write-stores-requires : tie.Need-write-stores-requires Inv-loop μ-loop
-write-stores-requires c κs = search needs
+advance-short-requires : tie.Need-advance-short-requires Inv-loop μ-loop
+advance-short-requires c κs = search needs
+
+changes-long-requires : tie.Need-changes-long-requires Inv-loop μ-loop
+changes-long-requires c κs = search needs
+
+advance-long-requires : tie.Need-advance-long-requires Inv-loop μ-loop
+advance-long-requires c κs = search needs
 
 wrapping-add-usize-requires : tie.Need-wrapping-add-usize-requires Inv-loop μ-loop
 wrapping-add-usize-requires c κs = search needs
@@ -50,12 +59,15 @@ call-spec =
     (tie.spec
     Inv-loop
     μ-loop
+    rest-sound-requires
     loop-holds
     returns
     mul-slot
     array-copy-out-slot
-    judge-requires
-    write-stores-requires
+    judge-tested-requires
+    advance-short-requires
+    changes-long-requires
+    advance-long-requires
     wrapping-add-usize-requires
     add-i
     sub-left

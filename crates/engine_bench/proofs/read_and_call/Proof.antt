@@ -3,10 +3,13 @@ use Rattle.engine_bench.proofs.read_and_call.Statement.{statement}
 use Rattle.engine_bench.proofs.read_and_call.Tie as tie
 
 abbrev Inv-loop : tie.InvT-loop
-Inv-loop input first live₀ stores₀ refused₀ at₀ left₀ live stores refused at left = Unit {0}
+Inv-loop input first live₀ stores short₀ long₀ rest refused₀ at₀ left₀ live short long refused at left = Unit {0}
 
 abbrev μ-loop : tie.MeasureT-loop
-μ-loop input first live₀ stores₀ refused₀ at₀ left₀ live stores refused at left = left
+μ-loop input first live₀ stores short₀ long₀ rest refused₀ at₀ left₀ live short long refused at left = left
+
+rest-sound-requires : tie.Need-rest-sound-requires Inv-loop μ-loop
+rest-sound-requires c κs = search needs
 
 loop-holds : tie.Need-loop-holds Inv-loop μ-loop
 loop-holds c = search needs
@@ -26,11 +29,17 @@ loop-less c = search needs
 loop-again : tie.Need-loop-again Inv-loop μ-loop
 loop-again c = search needs
 
-judge-requires : tie.Need-judge-requires Inv-loop μ-loop
-judge-requires c κs = search needs
+judge-tested-requires : tie.Need-judge-tested-requires Inv-loop μ-loop
+judge-tested-requires c κs = search needs
 
-write-stores-requires : tie.Need-write-stores-requires Inv-loop μ-loop
-write-stores-requires c κs = search needs
+advance-short-requires : tie.Need-advance-short-requires Inv-loop μ-loop
+advance-short-requires c κs = search needs
+
+changes-long-requires : tie.Need-changes-long-requires Inv-loop μ-loop
+changes-long-requires c κs = search needs
+
+advance-long-requires : tie.Need-advance-long-requires Inv-loop μ-loop
+advance-long-requires c κs = search needs
 
 wrapping-add-usize-requires : tie.Need-wrapping-add-usize-requires Inv-loop μ-loop
 wrapping-add-usize-requires c κs = search needs
@@ -56,14 +65,17 @@ read-and-call-spec =
     (tie.spec
     Inv-loop
     μ-loop
+    rest-sound-requires
     loop-holds
     sub-left
     event-at-requires
     enum-known-e
     loop-less
     loop-again
-    judge-requires
-    write-stores-requires
+    judge-tested-requires
+    advance-short-requires
+    changes-long-requires
+    advance-long-requires
     wrapping-add-usize-requires
     loop-less-2
     loop-again-2

@@ -3,7 +3,7 @@ use Rattle.soundness.proofs.sound.Statement.{statement}
 use Rattle.soundness.proofs.sound.Tie as tie
 
 returns : tie.Need-returns
-returns c = cc
+returns c = rw (c .before .rest .ensures, c .accounts .ensures)
 
 pub sound-spec : {M : Type 1} → statement M
 sound-spec = tie.close (tie.spec (λ c κs. search needs) (λ c κs. search needs) returns)

@@ -1,17 +1,22 @@
-use Rattle.tracking.proofs.Laws.{settled}
+-- The masks of the code are those of the eight protections.
+use Rattle.tracking.proofs.Laws.{track-is}
 use borrow.Author.Needs.{needs}
 use Rattle.tracking.proofs.track.Statement.{statement}
 use Rattle.tracking.proofs.track.Tie as tie
 
+since-all-requires : tie.Need-since-all-requires
+since-all-requires c κs = search needs
+
+due-all-requires : tie.Need-due-all-requires
+due-all-requires c κs = search needs
+
 returns : tie.Need-returns
 returns c =
-    let v = c .before .before .before .args in
-    settled (v .hold) (v .release) (v .t) (v .beyond) (v .within) (v .s) (rw (c .before .is-within .ensures) at (c .if1 .taken))
-
-returns-2 : tie.Need-returns-2
-returns-2 c = rw (c .tripped-at .ensures, c .before .span-at .ensures)
+    let due = c .before in
+    let since = due .before .before .before in
+    let v = since .before .before .before .before .before .args in
+    rw (due .due-all .ensures, since .since-all .ensures)
+    (track-is (v .beyond) (v .within) (v .t) (v .k) (search needs) (search needs) (search needs) (search needs))
 
 pub track-spec : {M : Type 1} → statement M
-track-spec =
-    tie.close
-    (tie.spec (λ c κs. search needs) returns (λ c κs. search needs) (λ c κs. search needs) returns-2)
+track-spec = tie.close (tie.spec since-all-requires due-all-requires returns)

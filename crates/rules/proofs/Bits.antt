@@ -1,6 +1,6 @@
 -- Masks and their bits, over any width and any number. A mask is known by its bits, and `&`, `|` and `!` are bit by bit what they are of one
 -- bit.
-use mathlib.Core.Path.{_≡_, refl, sym, ap, _∙_}
+use mathlib.Core.Path.{_≡_, refl, sym, ap, ap₂, _∙_}
 use mathlib.Core.Logic.{_↔_}
 use mathlib.Core.Bool.{Bool, true, false, not, cond, _&&_, _||_, true≢false}
 use Prim.Native.Nat.{ℕ, zero, suc, _+_, _-_, _*_, _/_, _%_, _^_, _<_, min, max}
@@ -120,15 +120,31 @@ digit-not zero h = refl
 digit-not (suc zero) h = refl
 digit-not (suc (suc d)) h = absurd (omega arith)
 
+-- what `!` leaves of a number, by its half and its lowest bit, q and r
+inverted : (p q r : ℕ) → 2 * q + r < 2 * p → r < 2 → 2 * p - 1 - (2 * q + r) ≡ 2 * (p - 1 - q) + (1 - r)
+inverted p q r h l = omega arith
+
+parted : (a : ℕ) → a ≡ 2 * (a / 2) + a / 1 % 2
+parted a = omega arith
+
+not-parted : (k a : ℕ) → a < 2 ^ suc k → 2 ^ suc k - 1 - a ≡ 2 * (2 ^ k - 1 - a / 2) + (1 - a / 1 % 2)
+not-parted k a h =
+    ap₂ (λ (x y : ℕ). x - 1 - y) (pow-succ' 2 k) (parted a)
+    ∙ inverted (2 ^ k) (a / 2) (a / 1 % 2) (rw (← parted a, ← pow-succ' 2 k) h) (omega arith)
+
+half-of : (q r : ℕ) → r < 2 → (2 * q + r) / 2 ≡ q
+half-of q r l = omega arith
+
+lowest-of : (q r : ℕ) → r < 2 → (2 * q + r) / 1 % 2 ≡ r
+lowest-of q r l = omega arith
+
 -- what `!` gives at width k
 pub bit-not : (k a n : ℕ) → a < 2 ^ k → n < k → bitOf (2 ^ k - 1 - a) n ≡ not (bitOf a n)
 bit-not zero a n h l = absurd (omega arith)
-bit-not (suc k) a zero h l =
-    let low : (2 ^ suc k - 1 - a) / 1 % 2 ≡ 1 - a / 1 % 2 = omega (arith, pow-succ' 2 k) in
-    rw low (digit-not (a / 1 % 2) (omega arith))
+bit-not (suc k) a zero h l = rw (not-parted k a h, lowest-of (2 ^ k - 1 - a / 2) (1 - a / 1 % 2) (omega arith)) (digit-not (a / 1 % 2) (omega arith))
 bit-not (suc k) a (suc n) h l =
-    let rest : (2 ^ suc k - 1 - a) / 2 ≡ 2 ^ k - 1 - a / 2 = omega (arith, pow-succ' 2 k) in
-    rw (half (2 ^ suc k - 1 - a) n, half a n, rest) (bit-not k (a / 2) n (omega (arith, pow-succ' 2 k)) (omega arith))
+    rw (half (2 ^ suc k - 1 - a) n, half a n, not-parted k a h, half-of (2 ^ k - 1 - a / 2) (1 - a / 1 % 2) (omega arith))
+    (bit-not k (a / 2) n (omega (arith, pow-succ' 2 k)) (omega arith))
 
 -- ---- none and all
 

@@ -53,6 +53,7 @@ use denote.Triple.Table.{entered, cited}
 use denote.Triple.Walked.{says, Stays, stay-none, stay-none-slice, walkOf, goes-none, goes-none-slice, Walks, ends-at, walked, walk-meets}
 use denote.Exit.{yes}
 use denote.Triple.Clauses.{ensured, lasts}
+use Rattle.reader.proofs.Fields.{Log, Position}
 use Rattle.reader.specs.declared.Read.{Read}
 use Rattle.reader.proofs.Read as N
 use Rattle.reader.proofs.Read.Laws as N′
@@ -233,9 +234,9 @@ module _ {M : Type 1} (𝓤 : URA M) (H : Heap 𝓤) (A : Atoms 𝓤) (W : Given
         peeks ! R (Is R) (shows 𝓤 H A R) (zs .0) (y ∷ []) (λ isz.
         rewrite ! 1 (λ (x : Val). ‵ (fat fullShare (T′.mir erased) l₃ 0 x)) (ap only (LL.tells (T.the-type α) (T′.the-laws α) (zs .0) _ isz)) refl $
         -- [what the reader owns; its cell; the token; …; what `next` gave owns; …; what the log owns; _10; …; _4; …; room for _3; _2; …; _1; …; _0; …]
-        assigns ! (of-opd ! (load ! (from ! (fld ! refl (stop !))) (look-in ! 20 (sub ! 0 refl (whole !))))) (from ! (stop !)) (init ! 12 refl (EL.lawful S.the-type S′.the-laws 𝓤 H A W tt .typed (a .answer) _ (LL.owed NT NL a _ isa .0) .0)) $
-        assigns ! (of-opd ! (load ! (from ! (fld ! refl (stop !))) (look-in ! 1 (sub ! 1 refl (whole !))))) (from ! (stop !)) (init ! 10 refl (tt, record { fits = LL.owed (T.the-type α) (T′.the-laws α) (zs .0) _ isz .1 .0 .1 })) $
-        assigns ! (of-opd ! (load ! (from ! (fld ! refl (stop !))) (look-in ! 20 (sub ! 1 refl (whole !))))) (from ! (stop !)) (init ! 8 refl (shr-slice-lawful 𝓤 H A W erased κ u8 .typed (a .rest) _ (LL.owed NT NL a _ isa .1 .0) .0)) $
+        assigns ! (of-opd ! (load ! (from ! (fld ! {τ = S′.mir} {d = 0} refl (stop !))) (look-in ! 20 (sub ! 0 {τ = S′.mir} {d = 0} refl (whole !))))) (from ! (stop !)) (init ! 12 refl (EL.lawful S.the-type S′.the-laws 𝓤 H A W tt .typed (a .answer) _ (LL.owed NT NL a _ isa .0) .0)) $
+        assigns ! (of-opd ! (load ! (from ! (fld ! {τ = Position} {d = 16} refl (stop !))) (look-in ! 1 (sub ! 1 {τ = Position} {d = 16} refl (whole !))))) (from ! (stop !)) (init ! 10 refl (tt, record { fits = LL.owed (T.the-type α) (T′.the-laws α) (zs .0) _ isz .1 .0 .1 })) $
+        assigns ! (of-opd ! (load ! (from ! (fld ! {τ = Log erased} {d = 48} refl (stop !))) (look-in ! 20 (sub ! 1 {τ = Log erased} {d = 48} refl (whole !))))) (from ! (stop !)) (init ! 8 refl (shr-slice-lawful 𝓤 H A W erased κ u8 .typed (a .rest) _ (LL.owed NT NL a _ isa .1 .0) .0)) $
         move ! (4 ∷ 2 ∷ 7 ∷ []) $ use3 W (raw (Print 𝓤 H A mem run .pre (to-print a (zs .0 .position))) ⊛ ‵ Own) (goes-print a w (zs .0 .position) (LL.owed (T.the-type α) (T′.the-laws α) (zs .0) _ isz .1 .0 .1)) $ split ! $
         calls-at ! fm (Print 𝓤 H A mem run) known-print (to-print a (zs .0 .position)) (and-then ! (load ! (from ! (stop !)) (look ! 24 refl)) (and-then ! (load ! (from ! (stop !)) (look ! 11 refl)) (and-then ! (load ! (from ! (stop !)) (look ! 9 refl)) (and-then ! (load ! (from ! (stop !)) (look ! 7 refl)) (no-more !))))) (λ c.
         use1 W (later (some (λ (none : Unit {0}). ((‵ (flft κ q) ⊛ ‵ ftrue) ⊛ ‵ (unit .own none (c ∷ []))) ⊛ raw (ensured 𝓤 H A print.ended (print.clauses 𝓤 H A mem run) (κ, tt) (s, (a .answer, (zs .0 .position, (a .rest, tt)))) tt none)))) (id⊢ 𝓤 _) $ await ! tt $ pick ! (λ none.
@@ -243,7 +244,7 @@ module _ {M : Type 1} (𝓤 : URA M) (H : Heap 𝓤) (A : Atoms 𝓤) (W : Given
         peeks ! unit (Is unit) (shows 𝓤 H A unit) none (c ∷ []) (λ isc.
         -- [what `()` owns; the token; what the log owns; what the reader owns; its cell; …; _10; …]
         land ! (from ! (stop !)) (init ! 14 refl (nothing-lawful 𝓤 H A W .typed none _ isc .0)) $
-        assigns ! (of-opd ! (load ! (from ! (fld ! refl (stop !))) (look-in ! 4 (sub ! 1 refl (whole !))))) (from ! (stop !)) (init ! 27 refl (tt, record { fits = LL.owed (T.the-type α) (T′.the-laws α) (zs .0) _ isz .1 .0 .1 })) $
+        assigns ! (of-opd ! (load ! (from ! (fld ! {τ = Position} {d = 16} refl (stop !))) (look-in ! 4 (sub ! 1 {τ = Position} {d = 16} refl (whole !))))) (from ! (stop !)) (init ! 27 refl (tt, record { fits = LL.owed (T.the-type α) (T′.the-laws α) (zs .0) _ isz .1 .0 .1 })) $
         returns ! (look ! 27 refl) $ forget ! 4 refl $ forget ! 8 refl $ forget ! 10 refl $ forget ! 12 refl $ forget ! 14 refl $ forget ! 16 refl $ forget ! 18 refl $ forget ! 20 refl $ forget ! 23 refl $ forget ! 25 refl $ forget ! 27 refl $
         move ! (27 ∷ 28 ∷ []) $ free1 ! $ move ! (25 ∷ 26 ∷ []) $ free1 ! $ move ! (23 ∷ 24 ∷ []) $ free1 ! $ move ! (4 ∷ 22 ∷ []) $ free1 ! $ move ! (19 ∷ 20 ∷ []) $ free1 ! $ move ! (17 ∷ 18 ∷ []) $ free1 ! $ move ! (15 ∷ 16 ∷ []) $ free1 ! $ move ! (13 ∷ 14 ∷ []) $ free1 ! $ move ! (11 ∷ 12 ∷ []) $ free1 ! $ move ! (9 ∷ 10 ∷ []) $ free1 ! $ move ! (7 ∷ 8 ∷ []) $ free1 ! $ free0 ! $
         keep ! (1 ∷ 2 ∷ []) $ by ! (leaves (zs .0 .position) (LL.owed (T.the-type α) (T′.the-laws α) (zs .0) _ isz .1 .0 .1) (f .2)))))))))))))))))))))))))))))

@@ -1,6 +1,7 @@
 #!/usr/bin/env python3
-"""permitted_test.py RATING: the permitted charge current as the code has it, a line for each row of crates/permitted/src/rows.rt, to hold
-beside the laboratory's page; RATING is 60000 or 90000. The status is 1 if a row is not document 01's L, and standard error says which.
+"""permitted_test.py RATING: the permitted charge current as the code has it, a line for each row of crates/rows_60/src/rows.rt or
+of rows_90, to hold beside the laboratory's page; RATING is 60000 or 90000. The status is 1 if a row is not document 01's L, and standard
+error says which.
 
 For `expected` this is a module: what permitted_test is held to, L worked out from document 01 for types 1, 2 and 3 and for two numbers that
 are no type, at every temperature that has a row, at the tenth before the first row, at the two after the last, and at the least and the
@@ -10,7 +11,7 @@ import re
 import signal
 import sys
 
-ROWS = pathlib.Path(__file__).resolve().parent.parent / "crates/permitted/src/rows.rt"
+CRATES = pathlib.Path(__file__).resolve().parent.parent / "crates"
 ROW_COUNT = 250
 TEMPERATURES = (-32_768, -1, *range(ROW_COUNT), 250, 251, 32_767)
 TYPES = (1, 2, 3, 0, 255)
@@ -39,7 +40,8 @@ def files():
 
 def coded(rating):
     """The rows that the code has for a rating."""
-    table = re.search(rf"ROWS_{rating // 1000}: \[i32; 250\] = \[(.*?)\];", ROWS.read_text(), re.DOTALL)[1]
+    text = (CRATES / f"rows_{rating // 1000}/src/rows.rt").read_text()
+    table = re.search(r"ROWS: \[i32; 250\] = \[(.*?)\];", text, re.DOTALL)[1]
     return [int(row.replace("_", "")) for row in re.sub(r"//.*", "", table).split(",") if row.strip()]
 
 

@@ -41,7 +41,7 @@ fn charge(previous: Previous, plausible: bool, t: Milliseconds, i: Milliamperes,
         Previous::Nothing => n,
         Previous::Frame(start, earlier) => {
             if plausible {
-                let d = tracking::elapsed(start, t);
+                let d = elapsed::elapsed(start, t);
                 let into = n.charged;
                 let out = n.discharged;
                 let gained = account::inflow(earlier, i, d);
@@ -121,7 +121,7 @@ pub fn advance_live(l: Live, e: Event) -> Live
         Event::PowerOn(t) => settings::begin(State::Dormant, t, l),
         Event::PowerLoss(t) => settings::begin(State::Unpowered, t, l),
         Event::ContactorCommand(t, c) => command(t, c, l),
-        Event::StateRequest(t, q) => settings::request(t, q, l),
+        Event::StateRequest(t, q) => state_request::request(t, q, l),
         Event::BattleOverride(t, on) => settings::set_override(t, on, l),
         Event::ClearLongTerm(t) => settings::clear(t, l),
     }

@@ -68,14 +68,14 @@ pub fn is_calm(battery: u8, r: Reading) -> bool
     ensures { λ b. ⌜ b ≡ isCalm battery r ⌝ }
 {
     let e = extremes::extremes(r);
-    let drawn = protection::discharge_limit(battery);
+    let drawn = within_limits::discharge_limit(battery);
     let difference = extremes::spread(e.highest, e.lowest);
-    let high = at_most_volts(e.highest, protection::HIGH_CELL_CLEAR);
-    let low = at_most_volts(protection::LOW_CELL_CLEAR, e.lowest);
-    let hot = at_most_degrees(e.hottest, protection::HOT_CLEAR);
-    let cold = at_most_degrees(protection::COLD_CLEAR, e.coldest);
+    let high = at_most_volts(e.highest, within_limits::HIGH_CELL_CLEAR);
+    let low = at_most_volts(within_limits::LOW_CELL_CLEAR, e.lowest);
+    let hot = at_most_degrees(e.hottest, within_limits::HOT_CLEAR);
+    let cold = at_most_degrees(within_limits::COLD_CLEAR, e.coldest);
     let charge = surely_permitted(e.coldest, r.current);
     let draw = at_most_current(drawn, r.current);
-    let apart = at_most_volts(difference, protection::SPREAD_CLEAR);
+    let apart = at_most_volts(difference, within_limits::SPREAD_CLEAR);
     high & (low & (hot & (cold & (charge & (draw & apart)))))
 }

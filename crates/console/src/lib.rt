@@ -1,4 +1,4 @@
-// The program on file descriptors: it reads a log in parts and writes the lines that `report` makes of each. A run that fails says so on
+// The program on file descriptors: it reads a log in parts and writes the lines that `lines` makes of each. A run that fails says so on
 // standard error and writes no last line, so that what it wrote never looks like a whole table.
 mod parts;
 

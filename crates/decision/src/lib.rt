@@ -1,4 +1,4 @@
-// What a run of the program does next, and why the lines of a part end, which `report` answers. All that decides it stands here; `console`
+// What a run of the program does next, and why the lines of a part end, which `lines` answers. All that decides it stands here; `console`
 // does what is decided.
 ghost use mathlib.Core.Path.{_≡_};
 ghost use lib.Dec.{eqb};

@@ -11,7 +11,7 @@ use Rattle.rules.specs.declared.units.DeciCelsius.{DeciCelsius}
 use Rattle.rules.specs.declared.units.Milliamperes.{Milliamperes}
 use Rattle.rules.specs.Quantities.{mA, dC}
 use Rattle.rules.specs.Protections.{curve, permitted}
-use Rattle.permitted.proofs.Curve.{isCurve, row-is, rows-250}
+use Rattle.curve.proofs.Curve.{isCurve, row-is, rows-250}
 use Rattle.permitted.proofs.permitted.Reads as permitted-reads
 
 -- what the code may give back for a battery type and a coldest temperature

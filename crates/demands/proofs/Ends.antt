@@ -20,7 +20,9 @@ use denote.Triple.Entry.{Args}
 use denote.Triple.Spec.{Spec, tripleOf, Meets}
 use Rattle.engine.proofs.fresh as run-fresh
 use Rattle.engine.proofs.apply as run-apply
-use Rattle.engine.proofs.judge as run-judge
+use Rattle.judging.proofs.rest_sound as run-rest-sound
+use Rattle.judging.proofs.judge_tested as run-judge-tested
+use Rattle.judging.proofs.judge as run-judge
 use Rattle.engine.proofs.write_stores as run-write-stores
 use Rattle.engine.proofs.sound as run-sound
 use Rattle.engine.proofs.contactor as run-contactor
@@ -74,6 +76,8 @@ module _
 pub record EveryCallEnds (M : Type 1) : Type 2 where
   pub fresh : EndsOnAll M run-fresh.signature run-fresh.Symbol.routine run-fresh.spec
   pub apply : EndsOnAll M run-apply.signature run-apply.Symbol.routine run-apply.spec
+  pub restSound : EndsOnAll M run-rest-sound.signature run-rest-sound.Symbol.routine run-rest-sound.spec
+  pub judgeTested : EndsOnAll M run-judge-tested.signature run-judge-tested.Symbol.routine run-judge-tested.spec
   pub judge : EndsOnAll M run-judge.signature run-judge.Symbol.routine run-judge.spec
   pub writeStores : EndsOnAll M run-write-stores.signature run-write-stores.Symbol.routine run-write-stores.spec
   pub sound : EndsOnAll M run-sound.signature run-sound.Symbol.routine run-sound.spec
@@ -95,6 +99,8 @@ pub each-ends : (M : Type 1) → EveryCallEnds M
 each-ends M = record {
   fresh = ends-on-all M run-fresh.signature run-fresh.Symbol.routine run-fresh.spec (λ 𝓤 H A mem run κs args. (tt, refl)) run-fresh.Met.met;
   apply = ends-on-all M run-apply.signature run-apply.Symbol.routine run-apply.spec (λ 𝓤 H A mem run κs args. (tt, refl)) run-apply.Met.met;
+  restSound = ends-on-all M run-rest-sound.signature run-rest-sound.Symbol.routine run-rest-sound.spec (λ 𝓤 H A mem run κs args. (tt, refl)) run-rest-sound.Met.met;
+  judgeTested = ends-on-all M run-judge-tested.signature run-judge-tested.Symbol.routine run-judge-tested.spec (λ 𝓤 H A mem run κs args. (tt, refl)) run-judge-tested.Met.met;
   judge = ends-on-all M run-judge.signature run-judge.Symbol.routine run-judge.spec (λ 𝓤 H A mem run κs args. (tt, refl)) run-judge.Met.met;
   writeStores = ends-on-all M run-write-stores.signature run-write-stores.Symbol.routine run-write-stores.spec (λ 𝓤 H A mem run κs args. (tt, refl)) run-write-stores.Met.met;
   sound = ends-on-all M run-sound.signature run-sound.Symbol.routine run-sound.spec (λ 𝓤 H A mem run κs args. (tt, refl)) run-sound.Met.met;

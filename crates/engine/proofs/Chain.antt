@@ -43,7 +43,7 @@ pub record CodeRun (battery : ℕ) (calls : List Event) (given : List ℕ) (afte
 
 -- ---- such a chain is a run of the step
 
-run-is : {r q : Record} {es : List Event} {ns : List ℕ} → Ran r es ns q → q ≡ run r es
+pub run-is : {r q : Record} {es : List Event} {ns : List ℕ} → Ran r es ns q → q ≡ run r es
 run-is done = refl
 run-is (called {es = es} o g c) = run-is c ∙ ap (λ (x : Outcome). run (x .after) es) g
 

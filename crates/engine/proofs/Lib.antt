@@ -1,3 +1,1 @@
-pub mod Bounds
-pub mod Laws
 pub mod Chain

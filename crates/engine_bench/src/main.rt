@@ -42,7 +42,7 @@ fn call(slots: [Slot; SLOTS], count: usize, first: Record) -> usize {
     let stores = first.stores;
     let mut short = stores.short;
     let mut long = stores.long;
-    let rest = engine::rest_sound(live, stores);
+    let rest = judging::rest_sound(live, stores);
     let mut refused: usize = 0;
     let mut i: usize = 0;
     let mut left = CALLS;
@@ -58,11 +58,11 @@ fn call(slots: [Slot; SLOTS], count: usize, first: Record) -> usize {
         }
         let slot = slots[i];
         let e = slot.event;
-        let j = engine::judge_tested(rest, live, e);
+        let j = judging::judge_tested(rest, live, e);
         let after = j.live;
         if j.changed {
             short = writing::advance_short(live, after, short, e);
-            if writing::changes_long(live, after, long.count, e) {
+            if changes::changes_long(live, after, long.count, e) {
                 long = writing::advance_long(live, after, long, e);
             }
         }
@@ -82,7 +82,7 @@ fn read_and_call(input: &[u8], first: Record) -> usize {
     let stores = first.stores;
     let mut short = stores.short;
     let mut long = stores.long;
-    let rest = engine::rest_sound(live, stores);
+    let rest = judging::rest_sound(live, stores);
     let mut refused: usize = 0;
     let mut at: usize = 1;
     let mut left = CALLS;
@@ -95,11 +95,11 @@ fn read_and_call(input: &[u8], first: Record) -> usize {
             long = stores.long;
             continue;
         };
-        let j = engine::judge_tested(rest, live, e);
+        let j = judging::judge_tested(rest, live, e);
         let after = j.live;
         if j.changed {
             short = writing::advance_short(live, after, short, e);
-            if writing::changes_long(live, after, long.count, e) {
+            if changes::changes_long(live, after, long.count, e) {
                 long = writing::advance_long(live, after, long, e);
             }
         }

@@ -11,7 +11,7 @@ use Rattle.rules.specs.declared.units.DeciCelsius.{DeciCelsius}
 use Rattle.rules.specs.declared.units.Milliamperes.{Milliamperes}
 use Rattle.rules.specs.Quantities.{mA, chargeRating}
 use Rattle.rules.specs.Protections.{curve, permittedAt, permitted}
-use Rattle.permitted.proofs.Curve.{curve-small}
+use Rattle.curve.proofs.Curve.{curve-small}
 
 pub not-negative : (c : ℤ) → ltZ c (pos 0) ≡ false → T (nonNeg c)
 not-negative (pos n) e = tt

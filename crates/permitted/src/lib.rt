@@ -1,45 +1,10 @@
-// The charge current that a battery permits at its coldest temperature, read from printed rows.
+// The charge current that a battery permits at its coldest temperature, read from the printed rows of its charge rating, and what a current is
+// held against as a charge.
 ghost use mathlib.Core.Path.{_≡_};
-ghost use lib.IntN.{pos};
-ghost use Rattle.rules.specs.Quantities.{mA};
-ghost use Rattle.rules.specs.Protections.{permittedAt, permitted};
-use crate::rows::ROWS_60;
-use crate::rows::ROWS_90;
+ghost use Rattle.rules.specs.Protections.{permitted};
+ghost use Rattle.permitted.specs.Bound.{chargeBound};
 use rules::units::DeciCelsius;
 use rules::units::Milliamperes;
-
-mod rows;
-
-// From 0 tenths on, for a charge rating of 60,000 mA: the row, or the rating past the last one. A constant array is built on the stack where
-// it is indexed; of one that is indexed by a place within fifty rows the compiler builds these alone.
-fn row_60(tenths: usize) -> Milliamperes
-    ensures { λ l. ⌜ l ≡ mA (pos (permittedAt 60_000 (pos tenths))) ⌝ }
-{
-    let place = tenths % 50;
-    match tenths / 50 {
-        0 => Milliamperes(ROWS_60[place]),
-        1 => Milliamperes(ROWS_60[50 + place]),
-        2 => Milliamperes(ROWS_60[100 + place]),
-        3 => Milliamperes(ROWS_60[150 + place]),
-        4 => Milliamperes(ROWS_60[200 + place]),
-        _ => Milliamperes(60_000),
-    }
-}
-
-// The same for a charge rating of 90,000 mA.
-fn row_90(tenths: usize) -> Milliamperes
-    ensures { λ l. ⌜ l ≡ mA (pos (permittedAt 90_000 (pos tenths))) ⌝ }
-{
-    let place = tenths % 50;
-    match tenths / 50 {
-        0 => Milliamperes(ROWS_90[place]),
-        1 => Milliamperes(ROWS_90[50 + place]),
-        2 => Milliamperes(ROWS_90[100 + place]),
-        3 => Milliamperes(ROWS_90[150 + place]),
-        4 => Milliamperes(ROWS_90[200 + place]),
-        _ => Milliamperes(90_000),
-    }
-}
 
 pub fn permitted(battery: u8, coldest: DeciCelsius) -> Milliamperes
     ensures { λ l. ⌜ l ≡ permitted battery coldest ⌝ }
@@ -50,8 +15,19 @@ pub fn permitted(battery: u8, coldest: DeciCelsius) -> Milliamperes
     }
     let tenths = c as usize;
     if battery == 3 {
-        row_90(tenths)
+        rows_90::row(tenths)
     } else {
-        row_60(tenths)
+        rows_60::row(tenths)
+    }
+}
+
+// L, and 0 for a current of at most 0: that is within every limit from 0 on and beyond none, so that L is not looked up for it.
+pub fn charge_bound(battery: u8, coldest: DeciCelsius, i: Milliamperes) -> Milliamperes
+    ensures { λ l. ⌜ l ≡ chargeBound (permitted battery coldest) i ⌝ }
+{
+    if i.0 <= 0 {
+        Milliamperes(0)
+    } else {
+        permitted(battery, coldest)
     }
 }

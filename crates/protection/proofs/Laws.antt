@@ -17,9 +17,10 @@ use Rattle.rules.specs.declared.sensors.Reading.{Reading}
 use Rattle.rules.specs.declared.sensors.Extremes.{Extremes}
 use Rattle.rules.specs.Quantities.{mV, mA, dC, _<mV_, _≤mV_, _<mA_, _≤mA_, _<dC_, _≤dC_, sum, negated, chargeRating, dischargeRating}
 use Rattle.rules.specs.Protections.{rowOf, permittedAt, permitted, extremes}
+use Rattle.permitted.specs.Bound.{chargeBound}
 use Rattle.permitted.proofs.Laws.{permitted-small}
 use Rattle.protection.specs.declared.Side.{Side}
-use Rattle.protection.specs.Rows.{chargeBound, sidesOf}
+use Rattle.protection.specs.Rows.{sidesOf}
 
 -- ---- what a current is held against as a charge
 

@@ -1,6 +1,4 @@
 pub mod Answers
-pub mod Numbering
-pub mod Going
 pub mod LastLine
 pub mod Turns
 pub mod Whole

@@ -1,12 +1,12 @@
-// Runs `report` on the log on its standard input and prints what comes out: for each prefix, then for all of it in two parts, divided at
-// each place, then with room for one line at a time.
+// Runs `report` and `lines` on the log on its standard input and prints what comes out: for each prefix, then for all of it in two parts,
+// divided at each place, then with room for one line at a time.
 ghost use mathlib.Core.Path.{_≡_};
 ghost use Prim.Native.Nat.{_≤_};
 ghost use lib.ListN.{length};
 ghost use Rattle.report_test.specs.Full.{isFull};
 use decision::Why;
-use report::Part;
-use report::Progress;
+use lines::Part;
+use lines::Progress;
 use testing::print;
 use testing::slice;
 
@@ -26,7 +26,7 @@ fn close(after: Progress, why: Why) {
 fn lines(part: &[u8], before: Progress, text: &mut [u8]) -> Part
     ensures { λ p. ⌜ p .read ≤ length (now (part .entry)) ⌝ }
 {
-    let p = report::lines(part, before, text);
+    let p = lines::put_lines(part, before, text);
     print::text(slice::part(text, 0, p.written));
     p
 }

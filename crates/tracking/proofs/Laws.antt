@@ -2,7 +2,7 @@
 use mathlib.Core.Path.{_≡_, refl, sym, ap, _∙_}
 use mathlib.Core.Bool.{Bool, true, false, not, cond, _&&_, _||_}
 use mathlib.Core.List.{List}
-use Prim.Native.Nat.{ℕ, _-_, _/_, _%_, _^_, _<_}
+use Prim.Native.Nat.{ℕ, _-_, _<_}
 use native.Mathlib.Omega.{arith}
 use lib.Bits.{bitAnd, bitOr, or-lt, and-le-l, and-le-r}
 use lib.ListN.{getD, length}
@@ -15,7 +15,9 @@ use Rattle.rules.proofs.Bits.{mask-below, bit-of-mask, mask-is, mask-same, bit-
 use Rattle.rules.proofs.Lists.{at-place, tabulate-ext, tabulate-places}
 use Rattle.step.specs.Track.{spanAt, trippedAt, isBeyond, isWithin, startOr}
 use Rattle.tracking.specs.declared.Kept.{Kept}
-use Rattle.tracking.specs.Masks.{sinceAll, isDue, dueHigh, dueAll, stateOf, trackedAt, trackedBy}
+use Rattle.due.specs.Due.{isDue, dueAll}
+use Rattle.due.proofs.Laws.{due-none}
+use Rattle.tracking.specs.Masks.{sinceAll, stateOf, trackedAt, trackedBy}
 
 -- ---- one protection, by its bits
 
@@ -109,23 +111,6 @@ unfolding sinceAll
 since-none begun t since places e =
     tabulate-places 8 since (ms 0) places
     ∙ tabulate-ext 8 (λ n. getD since n (ms 0)) (λ n. cond (bitOf begun n) t (getD since n (ms 0))) (λ n h. rw (e, bit-of-none n))
-
-due-none : (beyond asked : ℕ) (t : Milliseconds) (since : List Milliseconds) → asked ≡ 0 → 0 ≡ dueAll beyond asked t since
-unfolding dueAll
-due-none beyond asked t since e =
-    mask-is 8 0 (isDue beyond asked t since) (omega arith) (λ n h. rw (e, bit-of-none n))
-
--- the same of one half of the protections
-no-bit : (asked n : ℕ) → asked / 2 ^ n % 2 ≡ 0 → bitOf asked n ≡ false
-no-bit asked n e = rw e
-
-pub low-none : (beyond asked : ℕ) (t : Milliseconds) (since : List Milliseconds) → asked % 16 ≡ 0 → 0 ≡ maskBelow (isDue beyond asked t since) 4
-low-none beyond asked t since e =
-    rw (no-bit asked 0 (omega arith), no-bit asked 1 (omega arith), no-bit asked 2 (omega arith), no-bit asked 3 (omega arith))
-
-pub high-none : (beyond asked : ℕ) (t : Milliseconds) (since : List Milliseconds) → asked / 16 ≡ 0 → 0 ≡ dueHigh beyond asked t since
-high-none beyond asked t since e =
-    rw (no-bit asked 4 (omega arith), no-bit asked 5 (omega arith), no-bit asked 6 (omega arith), no-bit asked 7 (omega arith))
 
 -- ---- all eight, by their masks
 

@@ -6,6 +6,5 @@ use rules::battery::Live;
 pub fn mask(l: Live) -> u8
     ensures { λ m. ⌜ m ≡ trippedOf l ⌝ }
 {
-    let watch = l.watch;
-    watch.tripped
+    l.watch.tripped
 }

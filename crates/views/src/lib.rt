@@ -39,8 +39,7 @@ pub fn command(l: Live) -> u8
 pub fn overriding(l: Live) -> u8
     ensures { λ n. ⌜ n ≡ overrideNumber (l .control .overriding) ⌝ }
 {
-    let control = l.control;
-    if control.overriding { 1 } else { 0 }
+    if l.control.overriding { 1 } else { 0 }
 }
 
 pub fn test(l: Live) -> u8
@@ -65,14 +64,12 @@ pub fn contactor(l: Live) -> u8
 pub fn long_count(s: Stores) -> usize
     ensures { λ n. ⌜ n ≡ length (longEntries (s .long)) ⌝ }
 {
-    let long = s.long;
-    long.count
+    s.long.count
 }
 
 // The number of short-term entries.
 pub fn short_count(s: Stores) -> usize
     ensures { λ n. ⌜ n ≡ length (shortEntries (s .short)) ⌝ }
 {
-    let short = s.short;
-    short.count
+    s.short.count
 }

@@ -31,7 +31,7 @@ returns-2 c =
     let start = c .before .before .before .before .args in
     let back : toZ w16 (ofZ w16 (start .coldest .0)) ≡ start .coldest .0 = search needs in
     rw (eq-eqb (start .battery) 3 (c .before .if2 .taken))
-    (from-zero 90_000 (start .coldest .0) _ (rw back at (c .before .before .if1 .left)) (rw back at (c .row-90 .ensures)))
+    (from-zero 90_000 (start .coldest .0) _ (rw back at (c .before .before .if1 .left)) (rw back at (c .row .ensures)))
 
 returns-3 : tie.Need-returns-3
 unfolding permitted
@@ -39,7 +39,7 @@ returns-3 c =
     let start = c .before .before .before .before .args in
     let back : toZ w16 (ofZ w16 (start .coldest .0)) ≡ start .coldest .0 = search needs in
     rw (ne-eqb (start .battery) 3 (c .before .if2 .left))
-    (from-zero 60_000 (start .coldest .0) _ (rw back at (c .before .before .if1 .left)) (rw back at (c .row-60 .ensures)))
+    (from-zero 60_000 (start .coldest .0) _ (rw back at (c .before .before .if1 .left)) (rw back at (c .row2 .ensures)))
 
 pub permitted-spec : {M : Type 1} → statement M
 permitted-spec = tie.close (tie.spec returns cast-tenths (λ c κs. search needs) (λ c κs. search needs) returns-2 returns-3)

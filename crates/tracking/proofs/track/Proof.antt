@@ -7,16 +7,16 @@ use Rattle.tracking.proofs.track.Tie as tie
 since-all-requires : tie.Need-since-all-requires
 since-all-requires c κs = search needs
 
-due-all-requires : tie.Need-due-all-requires
-due-all-requires c κs = search needs
+due-requires : tie.Need-due-requires
+due-requires c κs = search needs
 
 returns : tie.Need-returns
 returns c =
     let due = c .before in
     let since = due .before .before .before in
     let v = since .before .before .before .before .before .args in
-    rw (due .due-all .ensures, since .since-all .ensures)
+    rw (due .due .ensures, since .since-all .ensures)
     (track-is (v .beyond) (v .within) (v .t) (v .k) (search needs) (search needs) (search needs) (search needs))
 
 pub track-spec : {M : Type 1} → statement M
-track-spec = tie.close (tie.spec since-all-requires due-all-requires returns)
+track-spec = tie.close (tie.spec since-all-requires due-requires returns)

@@ -1,0 +1,59 @@
+// The first part of a call: whether it is refused, what it makes of the live part, and whether the stores change, which are then written by
+// themselves. Soundness is in two parts too, so that a loop may test once what no call changes.
+ghost use mathlib.Core.Path.{_≡_};
+ghost use Rattle.step.specs.Sound.{soundRest};
+ghost use Rattle.step.proofs.Rest.{Shaped};
+ghost use Rattle.judging.specs.Judging.{judged, judgedTested};
+use rules::battery::Live;
+use rules::calls::Event;
+use rules::refusals::UNSOUND;
+use rules::stores::Stores;
+
+// What a call makes of the live part, with its refusal, and whether the stores change.
+pub struct Judged {
+    pub refusal: u8,
+    pub live: Live,
+    pub changed: bool,
+}
+
+// What no call changes of soundness: every call leaves a record of which it is the same, since the arrays have the lengths of their types.
+pub fn rest_sound(live: Live, stores: Stores) -> bool
+    ensures is { λ b. ⌜ b ≡ soundRest (record { live = live; stores = stores }) ⌝ }
+    ensures shaped { λ _. ⌜ Shaped (record { live = live; stores = stores }) ⌝ }
+{
+    soundness::rest(live, stores)
+}
+
+// A call where that was tested before, with this result: the accounts are tested here, and the stores are not asked for.
+pub fn judge_tested(rest: bool, live: Live, event: Event) -> Judged
+    ensures { λ j. ⌜ j ≡ judgedTested rest live event ⌝ }
+{
+    if rest & soundness::accounts(live) {
+        let refusal = refusal::refusal(live, event);
+        if refusal == 0 {
+            let after = advance::advance_live(live, event);
+            let changed = changes::changes_stores(live, after, event);
+            return Judged {
+                refusal: 0,
+                live: after,
+                changed,
+            };
+        }
+        return Judged {
+            refusal,
+            live,
+            changed: false,
+        };
+    }
+    Judged {
+        refusal: UNSOUND,
+        live,
+        changed: false,
+    }
+}
+
+pub fn judge(live: Live, stores: Stores, event: Event) -> Judged
+    ensures { λ j. ⌜ j ≡ judged live stores event ⌝ }
+{
+    judge_tested(rest_sound(live, stores), live, event)
+}

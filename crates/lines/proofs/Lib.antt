@@ -1,0 +1,4 @@
+pub mod Answers
+pub mod Numbering
+pub mod Going
+pub mod Written

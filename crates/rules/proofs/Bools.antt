@@ -15,6 +15,11 @@ pub is-true : (b : Bool) → T b ↔ (b ≡ true)
 is-true true = (λ h. refl, λ e. tt)
 is-true false = (λ h. absurd h, λ e. subst T (sym e) tt)
 
+-- the two tests of one that is passed
+pub and-true : (a b : Bool) → (a && b) ≡ true → (a ≡ true) × (b ≡ true)
+and-true true b e = (refl, e)
+and-true false b e = absurd (subst T (sym e) tt)
+
 -- a clear one, or one that passes two tests
 pub unless : (a b c : Bool) → T (not a || (b && c)) ↔ (T a → T b × T c)
 unless false b c = (λ h q. absurd q, λ p. tt)

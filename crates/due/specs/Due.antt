@@ -1,5 +1,5 @@
 -- The protections that are due, by masks: what the code finds of each by its bit, and all of them together.
-use Prim.Native.Nat.{ℕ, _+_, _/_, _%_}
+use Prim.Native.Nat.{ℕ, _/_, _%_}
 use mathlib.Core.Bool.{Bool, cond, _&&_}
 use mathlib.Core.List.{List}
 use lib.Dec.{eqb}
@@ -25,14 +25,6 @@ dueAt beyond asked protection t since =
 abbrev pub isDue : ℕ → ℕ → Milliseconds → List Milliseconds → ℕ → Bool
 isDue beyond asked t since protection =
     dueAt (bitOf beyond protection) (bitOf asked protection) protection t (getD since protection (ms 0))
-
--- the bits of protections 4 to 7
-abbrev pub dueHigh : ℕ → ℕ → Milliseconds → List Milliseconds → ℕ
-dueHigh beyond asked t since =
-    weigh (isDue beyond asked t since 4) 16
-    + weigh (isDue beyond asked t since 5) 32
-    + weigh (isDue beyond asked t since 6) 64
-    + weigh (isDue beyond asked t since 7) 128
 
 unfoldable pub dueAll : ℕ → ℕ → Milliseconds → List Milliseconds → ℕ
 dueAll beyond asked t since = maskBelow (isDue beyond asked t since) 8

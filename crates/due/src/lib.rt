@@ -3,8 +3,7 @@
 ghost use mathlib.Core.Bool.{cond};
 ghost use mathlib.Core.Path.{_≡_};
 ghost use Prim.Native.Nat.{_<_, _≤_};
-ghost use Rattle.rules.specs.Protections.{maskBelow};
-ghost use Rattle.due.specs.Due.{has, weigh, dueAt, isDue, dueHigh, dueAll};
+ghost use Rattle.due.specs.Due.{has, weigh, dueAt, dueAll};
 use rules::units::Milliseconds;
 
 // The bit of a protection, by its weight.
@@ -27,6 +26,7 @@ fn weight_if(due: bool, weight: u8) -> u8
     if due { weight } else { 0 }
 }
 
+// The bit of one of them, by its weight. The span of one that isn't asked is not looked at: most often one is asked or two.
 fn due_at(
     beyond: u8,
     asked: u8,
@@ -38,40 +38,28 @@ fn due_at(
     requires { ⌜ 0 < weight ⌝ }
     ensures { λ n. ⌜ (n ≡ weigh (dueAt (has beyond weight) (has asked weight) protection t since) weight) × (n ≤ weight) ⌝ }
 {
-    let hold = holds::hold(protection);
-    let release = holds::release(protection);
-    let limit = least(bit(beyond, weight), hold, release);
-    let length = elapsed::elapsed(since, t);
-    weight_if(bit(asked, weight) & (limit.0 <= length.0), weight)
+    if bit(asked, weight) {
+        let hold = holds::hold(protection);
+        let release = holds::release(protection);
+        let limit = least(bit(beyond, weight), hold, release);
+        let length = elapsed::elapsed(since, t);
+        return weight_if(limit.0 <= length.0, weight);
+    }
+    0
 }
 
-// Of protections 0 to 3, and of 4 to 7: most often at most one is asked, and the other four are passed over.
-fn due_low(beyond: u8, asked: u8, t: Milliseconds, since: [Milliseconds; 8]) -> u8
-    ensures { λ n. ⌜ (n ≡ maskBelow (isDue beyond asked t since) 4) × (n ≤ 15) ⌝ }
+pub fn due(beyond: u8, asked: u8, t: Milliseconds, since: [Milliseconds; 8]) -> u8
+    ensures { λ n. ⌜ n ≡ dueAll beyond asked t since ⌝ }
 {
-    if asked % 16 == 0 {
+    if asked == 0 {
         return 0;
     }
     due_at(beyond, asked, 0, 1, t, since[0])
         + due_at(beyond, asked, 1, 2, t, since[1])
         + due_at(beyond, asked, 2, 4, t, since[2])
         + due_at(beyond, asked, 3, 8, t, since[3])
-}
-
-fn due_high(beyond: u8, asked: u8, t: Milliseconds, since: [Milliseconds; 8]) -> u8
-    ensures { λ n. ⌜ (n ≡ dueHigh beyond asked t since) × (n ≤ 240) ⌝ }
-{
-    if asked / 16 == 0 {
-        return 0;
-    }
-    due_at(beyond, asked, 4, 16, t, since[4])
+        + due_at(beyond, asked, 4, 16, t, since[4])
         + due_at(beyond, asked, 5, 32, t, since[5])
         + due_at(beyond, asked, 6, 64, t, since[6])
         + due_at(beyond, asked, 7, 128, t, since[7])
-}
-
-pub fn due(beyond: u8, asked: u8, t: Milliseconds, since: [Milliseconds; 8]) -> u8
-    ensures { λ n. ⌜ n ≡ dueAll beyond asked t since ⌝ }
-{
-    due_low(beyond, asked, t, since) + due_high(beyond, asked, t, since)
 }

@@ -1,22 +1,45 @@
--- The two halves together.
-use native.Mathlib.Omega.{arith}
+-- Where none is asked, none is due; else the eight bits make up the mask.
 use Rattle.due.specs.Due.{dueAll}
+use Rattle.due.proofs.Laws.{due-none}
 use borrow.Author.Needs.{needs}
 use Rattle.due.proofs.due.Statement.{statement}
 use Rattle.due.proofs.due.Tie as tie
 
-due-low-requires : tie.Need-due-low-requires
-due-low-requires c κs = search needs
-
-due-high-requires : tie.Need-due-high-requires
-due-high-requires c κs = search needs
-
-add-result : tie.Need-add-result
-add-result c = search needs
-
 returns : tie.Need-returns
+returns c =
+    let v = c .before .args in
+    due-none (v .beyond) (v .asked) (v .t) (v .t4) (c .if1 .taken)
+
+returns-2 : tie.Need-returns-2
 unfolding dueAll
-returns c = rw (c .due-high .ensures .0, c .before .due-low .ensures .0) (omega arith)
+returns-2 c = search needs
 
 pub due-spec : {M : Type 1} → statement M
-due-spec = tie.close (tie.spec due-low-requires due-high-requires add-result returns)
+due-spec =
+    tie.close
+    (tie.spec
+    returns
+    (λ c. search needs)
+    (λ c κs. search needs)
+    (λ c. search needs)
+    (λ c κs. search needs)
+    (λ c. search needs)
+    (λ c. search needs)
+    (λ c κs. search needs)
+    (λ c. search needs)
+    (λ c. search needs)
+    (λ c κs. search needs)
+    (λ c. search needs)
+    (λ c. search needs)
+    (λ c κs. search needs)
+    (λ c. search needs)
+    (λ c. search needs)
+    (λ c κs. search needs)
+    (λ c. search needs)
+    (λ c. search needs)
+    (λ c κs. search needs)
+    (λ c. search needs)
+    (λ c. search needs)
+    (λ c κs. search needs)
+    (λ c. search needs)
+    returns-2)

@@ -1,50 +1,59 @@
 -- A call on the live part as the code goes through it.
 use mathlib.Core.Path.{_≡_, refl, sym, ap, _∙_}
-use mathlib.Core.Bool.{Bool, true, false, _&&_, true≢false}
+use mathlib.Core.Bool.{Bool, true, false, cond, _&&_}
 use Prim.Native.Nat.{ℕ, zero, suc}
+use native.Mathlib.Omega.{arith}
 use Rattle.rules.specs.declared.calls.Event.{Event}
 use Rattle.rules.specs.declared.stores.Stores.{Stores}
 use Rattle.rules.specs.declared.battery.Live.{Live}
+use Rattle.rules.proofs.Bools.{and-true}
 use Rattle.step.specs.Sound.{soundRest, soundAccounts}
 use Rattle.step.specs.Refusal.{refusalLive, refusalTested}
-use Rattle.step.specs.Call.{advanceLive}
 use Rattle.step.proofs.Rest.{refusal-tested}
-use Rattle.advance.specs.Room.{advanceWithin}
-use Rattle.changes.specs.Changes.{changesStores}
+use Rattle.advance.specs.Room.{hasRoom}
 use Rattle.judging.proofs.Bounds.{room-by}
 use Rattle.judging.specs.declared.Judged.{Judged}
-use Rattle.judging.specs.Judging.{judgedBy, judged, judgedTested}
+use Rattle.judging.specs.Judging.{liveBy, changesBy, judgedBy, judged, judgedTested}
 
-module _ (rest : Bool) (l : Live) (e : Event) (a : Bool) (a-is : a ≡ soundAccounts l) where
-  right : (x y : Bool) → (x && y) ≡ true → y ≡ true
-  right true y h = h
-  right false y h = absurd (true≢false (sym h))
+-- ---- a refused call leaves all as it is
 
-  by-refusal : (k : ℕ) → refusalTested rest l e ≡ k → judgedBy k l e ≡ judgedTested rest l e
+module _ (l : Live) (e : Event) where
+  pub live-left : (n : ℕ) → ¬ (n ≡ 0) → l ≡ liveBy n l e
+  live-left zero z = absurd (z refl)
+  live-left (suc n) z = refl
+
+  pub stores-left : (n : ℕ) → ¬ (n ≡ 0) → (after : Live) → false ≡ changesBy n l after e
+  stores-left zero z after = absurd (z refl)
+  stores-left (suc n) z after = refl
+
+-- ---- with its refusal, by soundness in two parts
+
+module _ (rest : Bool) (l : Live) (e : Event) where
+  module _ (a : Bool) (a-is : a ≡ soundAccounts l) where
+    pub of-sound : (rest && a) ≡ true → (n : ℕ) → n ≡ refusalLive l e → n ≡ refusalTested rest l e
+    of-sound h n is = rw (← a-is, h) is
+
+    pub of-unsound : (rest && a) ≡ false → 5 ≡ refusalTested rest l e
+    of-unsound h = rw (← a-is, h) refl
+
+  -- an accepted call finds room
+  room : refusalTested rest l e ≡ 0 → hasRoom e l ≡ true
+  room accepted = go (rest && soundAccounts l) refl accepted
+    where
+      go : (fine : Bool) → (rest && soundAccounts l) ≡ fine → _≡_ {A = ℕ} (cond fine (refusalLive l e) 5) 0 → hasRoom e l ≡ true
+      go true is z = room-by e l (and-true rest (soundAccounts l) is .1) z
+      go false is z = absurd (omega arith)
+
+  by-refusal : (n : ℕ) → refusalTested rest l e ≡ n
+      → _≡_ {A = Judged} (record { refusal = n; live = liveBy n l e; changed = changesBy n l (liveBy n l e) e }) (judgedTested rest l e)
   unfolding judgedTested
-  by-refusal k h = rw h refl
+  by-refusal zero h = rw (h, room h) refl
+  by-refusal (suc n) h = rw h refl
 
-  of-sound : (rest && a) ≡ true → refusalTested rest l e ≡ refusalLive l e
-  of-sound h = rw (← a-is, h) refl
-
-  module _ (fine : (rest && a) ≡ true) (n : ℕ) (n-is : n ≡ refusalLive l e) where
-    pub accepted : n ≡ 0 → (after : Live) (changed : Bool) → after ≡ advanceWithin e l → changed ≡ changesStores e l after
-        → _≡_ {A = Judged} (record { refusal = 0; live = after; changed = changed }) (judgedTested rest l e)
-    accepted z after changed is t =
-        let room = room-by e l (sym a-is ∙ right rest a fine) (sym n-is ∙ z) in
-        let advanced : after ≡ advanceLive e l = is ∙ rw room refl in
-        rw (t, advanced) (by-refusal 0 (of-sound fine ∙ sym n-is ∙ z))
-
-    pub refused : ¬ (n ≡ 0) → _≡_ {A = Judged} (record { refusal = n; live = l; changed = false }) (judgedTested rest l e)
-    refused z = go n (of-sound fine ∙ sym n-is) z
-      where
-        go : (k : ℕ) → refusalTested rest l e ≡ k → ¬ (k ≡ 0)
-            → _≡_ {A = Judged} (record { refusal = k; live = l; changed = false }) (judgedTested rest l e)
-        go zero h z = absurd (z refl)
-        go (suc k) h z = by-refusal (suc k) h
-
-  pub unsound : (rest && a) ≡ false → _≡_ {A = Judged} (record { refusal = 5; live = l; changed = false }) (judgedTested rest l e)
-  unsound h = by-refusal 5 (rw (← a-is, h) refl)
+  pub from-parts : (n : ℕ) (after : Live) (changed : Bool)
+      → n ≡ refusalTested rest l e → after ≡ liveBy n l e → changed ≡ changesBy n l after e
+      → _≡_ {A = Judged} (record { refusal = n; live = after; changed = changed }) (judgedTested rest l e)
+  from-parts n after changed n-is after-is changed-is = rw (changed-is, after-is) (by-refusal n (sym n-is))
 
 -- with the rest of a record's soundness it is the call on that record
 pub judged-tested : (l : Live) (s : Stores) (e : Event) → judgedTested (soundRest (record { live = l; stores = s })) l e ≡ judged l s e

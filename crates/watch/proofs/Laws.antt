@@ -24,7 +24,7 @@ use Rattle.rules.specs.Protections.{Protection, overvoltage, lowest, highest, h
 use Rattle.rules.specs.Shown.{bitOf, keptAt}
 use Rattle.rules.proofs.Apart.{apart}
 use Rattle.rules.proofs.Bits.{bit-of-mask, bit-of-none, bit-of-all, none-of-or}
-use Rattle.rules.proofs.Bools.{is-true}
+use Rattle.rules.proofs.Bools.{and-true, is-true}
 use Rattle.rules.proofs.Order.{at-most-trans}
 use Rattle.step.specs.Track.{trackOne, keeping, trackAll, previousBy, observe}
 use Rattle.step.proofs.Keeping.{keeping-same}
@@ -37,7 +37,8 @@ use Rattle.calm.proofs.Calm.{Calm, calm-parts, calm-within}
 use Rattle.tracking.specs.declared.Kept.{Kept}
 use Rattle.tracking.specs.Masks.{trackedAt, trackedBy}
 use Rattle.tracking.proofs.Laws.{settled-is}
-use Rattle.watch.specs.Kept.{keptBy, isSettled, passedWith, calmed}
+use Rattle.watch.specs.declared.Seen.{Seen}
+use Rattle.watch.specs.Kept.{keptBy, isSettled, calmSeen, seenBy, shownWith, watchedBy}
 
 -- ---- the failed sensors of a plausible measurement
 
@@ -94,32 +95,19 @@ side-bit true test n h = bit-of-mask 8 test n h
 side-bit false test n h = bit-of-none n
 
 module _ (battery : ℕ) (t : Milliseconds) (r : Reading) (w : Watch) where
-  abbrev beyondM : ℕ
-  beyondM = cond (plausible r) (masksOf battery r .beyond) 0
+  abbrev sides : Seen
+  sides = seenBy false battery r
 
-  abbrev withinM : ℕ
-  withinM = cond (plausible r) (masksOf battery r .within) 0
-
-  sides-tracked : putting (trackedBy beyondM withinM t (keptBy w)) w ≡ trackAll battery t r w
+  sides-tracked : putting (trackedBy (sides .beyond) (sides .within) t (keptBy w)) w ≡ trackAll battery t r w
   unfolding masksOf
   sides-tracked =
-      tracked-is battery t r w beyondM withinM
+      tracked-is battery t r w (sides .beyond) (sides .within)
       (side-bit (plausible r) (λ n. rowOf battery n .beyond r))
       (side-bit (plausible r) (λ n. rowOf battery n .within r))
 
-  pub by-sides-is : (k : Kept) → k ≡ trackedBy beyondM withinM t (keptBy w)
-      → _≡_ {A = Watch} (record {
-        test = cond (plausible r) Passed Failed;
-        tripped = k .tripped;
-        beyond = k .beyond;
-        within = k .within;
-        mask = cond (plausible r) 0 (failedMask r);
-        failed = ones (cond (plausible r) 0 (failedMask r));
-        previous = previousBy (plausible r) t (r .current);
-        since = k .since;
-      }) (observe battery t r w)
+  sides-observed : watchedBy sides t (r .current) w ≡ observe battery t r w
   unfolding observe failedCount
-  by-sides-is k is = rw (is, mask-is r, ← sides-tracked)
+  sides-observed = rw (mask-is r, ← sides-tracked)
 
 -- ---- a calm measurement
 
@@ -162,24 +150,33 @@ module _ (battery : ℕ) (r : Reading) (c : Calm battery r) where
       bit-of-all 8 n h
       ∙ sym (rw (is-true (plausible r) .0 calm-plausible) (is-true (rowOf battery n .within r) .0 (calm-within battery r c n h)))
 
-  calm-observed : (t : Milliseconds) (w : Watch) → calmed t (r .current) w ≡ observe battery t r w
-  unfolding observe failedCount ones
+  calm-observed : (t : Milliseconds) (w : Watch) → watchedBy calmSeen t (r .current) w ≡ observe battery t r w
+  unfolding observe failedCount
   calm-observed t w =
       let passes : plausible r ≡ true = is-true (plausible r) .0 calm-plausible in
       let none : failedMask r ≡ 0 = sym (mask-is r) ∙ (rw passes) in
       rw (passes, none, ← tracked-is battery t r w 0 255 calm-beyond calm-bits)
 
-pub calm-is : (battery : ℕ) (t : Milliseconds) (r : Reading) (w : Watch) → isCalm battery r ≡ true → calmed t (r .current) w ≡ observe battery t r w
-calm-is battery t r w h = calm-observed battery r (calm-parts battery r (is-true (isCalm battery r) .1 h)) t w
+-- ---- what a measurement shows is all that counts
+
+pub seen-observed : (battery : ℕ) (t : Milliseconds) (r : Reading) (w : Watch) (calm : Bool) → calm ≡ isCalm battery r
+    → watchedBy (seenBy calm battery r) t (r .current) w ≡ observe battery t r w
+seen-observed battery t r w true is = calm-observed battery r (calm-parts battery r (is-true (isCalm battery r) .1 (sym is))) t w
+seen-observed battery t r w false is = sides-observed battery t r w
 
 -- ---- what is settled stays
 
-pub settled-stays : (t : Milliseconds) (i : Milliamperes) (w : Watch) → length (w .since) ≡ 8 → isSettled w ≡ true → passedWith t i (keptBy w) ≡ calmed t i w
+settled-stays : (t : Milliseconds) (i : Milliamperes) (w : Watch) → length (w .since) ≡ 8 → isSettled w ≡ true
+    → shownWith calmSeen t i (keptBy w) ≡ watchedBy calmSeen t i w
 settled-stays t i w places h =
-    let tests = both (eqb (bitOr (w .beyond) (w .tripped)) 0) (eqb (w .within) 255) h in
+    let tests = and-true (eqb (bitOr (w .beyond) (w .tripped)) 0) (eqb (w .within) 255) h in
     let none = none-of-or (w .beyond) (w .tripped) (eqb-true (bitOr (w .beyond) (w .tripped)) 0 (tests .0)) in
-    ap (passedWith t i) (settled-is t (keptBy w) places (none .1) (none .0) (eqb-true (w .within) 255 (tests .1)))
-  where
-    both : (a b : Bool) → (a && b) ≡ true → (a ≡ true) × (b ≡ true)
-    both true b e = (refl, e)
-    both false b e = absurd (subst T (sym e) tt)
+    ap (shownWith calmSeen t i) (settled-is t (keptBy w) places (none .1) (none .0) (eqb-true (w .within) 255 (tests .1)))
+
+pub stays-observed : (battery : ℕ) (t : Milliseconds) (r : Reading) (w : Watch) → length (w .since) ≡ 8
+    → (calm settled : Bool) → calm ≡ isCalm battery r → settled ≡ isSettled w → (calm && settled) ≡ true
+    → shownWith calmSeen t (r .current) (keptBy w) ≡ observe battery t r w
+stays-observed battery t r w places calm settled calm-is settled-is h =
+    let tests = and-true calm settled h in
+    settled-stays t (r .current) w places (sym settled-is ∙ tests .1)
+    ∙ seen-observed battery t r w true (sym (tests .0) ∙ calm-is)

@@ -5,7 +5,7 @@ ghost use Rattle.rules.specs.declared.states.TestResult.the-variants.{Passed, F
 ghost use lib.Count.{ones};
 ghost use Rattle.rules.specs.Test.{failedMask};
 ghost use Rattle.step.specs.Track.{previousBy, observe as observeOf};
-ghost use Rattle.watch.specs.Kept.{keptBy, isSettled, calmed};
+ghost use Rattle.watch.specs.Kept.{keptBy, isSettled, calmSeen, seenBy, shownWith, watchedBy};
 use rules::sensors::Reading;
 use rules::session::Previous;
 use rules::session::Watch;
@@ -13,6 +13,15 @@ use rules::states::TestResult;
 use rules::units::Milliamperes;
 use rules::units::Milliseconds;
 use tracking::Kept;
+
+// What a measurement shows: whether it is plausible; the protections that it then is beyond and those that it is within, as masks with bit =
+// number; its failed sensors.
+pub struct Seen {
+    pub plausible: bool,
+    pub beyond: u8,
+    pub within: u8,
+    pub mask: u16,
+}
 
 fn previous_of(plausible: bool, t: Milliseconds, i: Milliamperes) -> Previous
     ensures { λ p. ⌜ p ≡ previousBy plausible t i ⌝ }
@@ -79,54 +88,61 @@ fn settled(w: Watch) -> bool
     ((w.beyond | w.tripped) == 0) & (w.within == 255)
 }
 
-// After a measurement within the limits of every protection, which is plausible then. Where that was so before, nothing is tracked anew.
-fn calm(t: Milliseconds, i: Milliamperes, w: Watch) -> Watch
-    ensures { λ n. ⌜ n ≡ calmed t i w ⌝ }
+// What is watched after a calm measurement where all was settled: nothing is tracked anew.
+fn stay(t: Milliseconds, i: Milliamperes, w: Watch) -> Watch
+    ensures { λ n. ⌜ n ≡ shownWith calmSeen t i (keptBy w) ⌝ }
 {
     let previous = Previous::Frame(t, i);
-    if settled(w) {
-        return Watch {
-            test: TestResult::Passed,
-            mask: 0,
-            failed: 0,
-            previous,
-            ..w
-        };
-    }
-    let k = tracking::track(0, 255, t, kept(w));
-    let since = k.since;
     Watch {
         test: TestResult::Passed,
-        tripped: k.tripped,
-        beyond: k.beyond,
-        within: k.within,
         mask: 0,
         failed: 0,
         previous,
-        since,
+        ..w
     }
 }
 
-// From the sides of the limits on which the measurement lies.
-fn by_sides(battery: u8, t: Milliseconds, r: Reading, w: Watch) -> Watch
-    ensures { λ n. ⌜ n ≡ observeOf battery t r w ⌝ }
+// A calm measurement is plausible, within all limits and beyond none: its sensors and its sides are not asked one by one.
+fn examine(calm: bool, battery: u8, r: Reading) -> Seen
+    ensures { λ s. ⌜ s ≡ seenBy calm battery r ⌝ }
 {
+    if calm {
+        return Seen {
+            plausible: true,
+            beyond: 0,
+            within: 255,
+            mask: 0,
+        };
+    }
     let plausible = reading::plausible(r);
     let mask = mask_of(plausible, r);
-    let failed = count_of(mask);
     let sides = protection::sides(battery, r);
     let beyond = if_plausible(plausible, sides.beyond);
     let within = if_plausible(plausible, sides.within);
-    let k = tracking::track(beyond, within, t, kept(w));
+    Seen {
+        plausible,
+        beyond,
+        within,
+        mask,
+    }
+}
+
+// What is watched after a measurement of which that is seen. It has one caller, so that what is kept is not copied for a call.
+fn watched(s: Seen, t: Milliseconds, i: Milliamperes, w: Watch) -> Watch
+    ensures { λ n. ⌜ n ≡ watchedBy s t i w ⌝ }
+{
+    let plausible = s.plausible;
+    let k = tracking::track(s.beyond, s.within, t, kept(w));
     let since = k.since;
     let test = test_of(plausible);
-    let previous = previous_of(plausible, t, r.current);
+    let failed = count_of(s.mask);
+    let previous = previous_of(plausible, t, i);
     Watch {
         test,
         tripped: k.tripped,
         beyond: k.beyond,
         within: k.within,
-        mask,
+        mask: s.mask,
         failed,
         previous,
         since,
@@ -136,8 +152,9 @@ fn by_sides(battery: u8, t: Milliseconds, r: Reading, w: Watch) -> Watch
 pub fn observe(battery: u8, t: Milliseconds, r: Reading, w: Watch) -> Watch
     ensures { λ n. ⌜ n ≡ observeOf battery t r w ⌝ }
 {
-    if calm::is_calm(battery, r) {
-        return calm(t, r.current, w);
+    let calm = calm::is_calm(battery, r);
+    if calm & settled(w) {
+        return stay(t, r.current, w);
     }
-    by_sides(battery, t, r, w)
+    watched(examine(calm, battery, r), t, r.current, w)
 }

@@ -61,9 +61,12 @@ fn hex_digit(d: u8) -> u8
     if d < 10 { 48 + d } else { 87 + d }
 }
 
-// A byte in two hex digits.
+// A byte in two hex digits. Most masks are 0.
 pub fn hex_pair(n: u8) -> [u8; 2]
     ensures { λ p. ⌜ p ≡ hexPair n ⌝ }
 {
+    if n == 0 {
+        return [48, 48];
+    }
     [hex_digit(n / 16), hex_digit(n % 16)]
 }

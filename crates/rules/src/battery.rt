@@ -21,9 +21,10 @@ pub struct Tally {
     pub discharged: Charge,
 }
 
+// The last time leads, and the battery type and the control fill the eight bytes up, so that no field stands behind a gap.
 pub struct Live {
-    pub battery: u8,
     pub last: Milliseconds,
+    pub battery: u8,
     pub control: Control,
     pub watch: Watch,
     pub tally: Tally,

@@ -11,6 +11,7 @@ use rules::battery::Live;
 use rules::battery::Tally;
 use rules::calls::Command;
 use rules::calls::Event;
+use rules::limits::COMMAND_CEILING;
 use rules::sensors::Reading;
 use rules::session::Previous;
 use rules::states::State;
@@ -21,8 +22,6 @@ use rules::units::Milliseconds;
 
 // What no account of a sound record exceeds: 2,000,000 mA for the whole mission time. What one measurement adds to it fits in 64 bits.
 const ACCOUNT_LIMIT: u64 = 691_200_000_000_000;
-
-const COMMAND_CEILING: u32 = 4_294_967_295;
 
 fn accounts_room(n: Tally) -> bool
     ensures { λ b. ⌜ b ≡ accountsRoom n ⌝ }

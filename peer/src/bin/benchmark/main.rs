@@ -12,7 +12,7 @@ use std::time::Duration;
 
 const USAGE: &str = "usage: benchmark [--sixt PATH] [--largest EVENTS]";
 /// Events and repetitions.
-const SIZES: [(u64, usize); 4] = [(10_000, 21), (100_000, 15), (1_000_000, 7), (10_000_000, 5)];
+const SIZES: [(u64, usize); 4] = [(10_000, 21), (100_000, 15), (1_000_000, 15), (10_000_000, 5)];
 
 struct Options {
     sixt: Option<PathBuf>,

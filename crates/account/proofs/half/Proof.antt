@@ -3,9 +3,6 @@ use Rattle.account.proofs.Laws.{product-fits, half-small}
 use Rattle.account.proofs.half.Statement.{statement}
 use Rattle.account.proofs.half.Tie as tie
 
-cast-t3 : tie.Need-cast-t3
-cast-t3 c = search needs
-
 mul-t4 : tie.Need-mul-t4
 mul-t4 c = search (product-fits, needs)
 
@@ -13,4 +10,4 @@ returns : tie.Need-returns
 returns c = search (half-small, needs)
 
 pub half-spec : {M : Type 1} → statement M
-half-spec = tie.close (tie.spec cast-t3 mul-t4 returns)
+half-spec = tie.close (tie.spec (λ c. search needs) mul-t4 returns)

@@ -3,9 +3,6 @@ use Rattle.account.proofs.Laws.{magnitude-small, as-magnitude, no-inflo
 use Rattle.account.proofs.inflow.Statement.{statement}
 use Rattle.account.proofs.inflow.Tie as tie
 
-sum-requires : tie.Need-sum-requires
-sum-requires c κs = search needs
-
 returns : tie.Need-returns
 returns c = search (no-inflow, needs)
 
@@ -19,4 +16,4 @@ returns-2 : tie.Need-returns-2
 returns-2 c = search (is-inflow, needs)
 
 pub inflow-spec : {M : Type 1} → statement M
-inflow-spec = tie.close (tie.spec sum-requires returns cast-half half-requires returns-2)
+inflow-spec = tie.close (tie.spec (λ c κs. search needs) returns cast-half half-requires returns-2)

@@ -3,9 +3,6 @@ use Rattle.account.proofs.Laws.{negation-fits, negation-as-magnitude, n
 use Rattle.account.proofs.outflow.Statement.{statement}
 use Rattle.account.proofs.outflow.Tie as tie
 
-sum-requires : tie.Need-sum-requires
-sum-requires c κs = search needs
-
 sub-magnitude : tie.Need-sub-magnitude
 sub-magnitude c = search (negation-fits, needs)
 
@@ -22,4 +19,4 @@ returns-2 : tie.Need-returns-2
 returns-2 c = search (no-outflow, needs)
 
 pub outflow-spec : {M : Type 1} → statement M
-outflow-spec = tie.close (tie.spec sum-requires sub-magnitude cast-half half-requires returns returns-2)
+outflow-spec = tie.close (tie.spec (λ c κs. search needs) sub-magnitude cast-half half-requires returns returns-2)

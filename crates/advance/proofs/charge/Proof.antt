@@ -3,27 +3,6 @@ use borrow.Author.Needs.{needs}
 use Rattle.advance.proofs.charge.Statement.{statement}
 use Rattle.advance.proofs.charge.Tie as tie
 
-enum-told : tie.Need-enum-told
-enum-told c = search needs
-
-enum-known-previous : tie.Need-enum-known-previous
-enum-known-previous c = search needs
-
-elapsed-requires : tie.Need-elapsed-requires
-elapsed-requires c κs = search needs
-
-inflow-requires : tie.Need-inflow-requires
-inflow-requires c κs = search needs
-
-add-t17 : tie.Need-add-t17
-add-t17 c = search needs
-
-outflow-requires : tie.Need-outflow-requires
-outflow-requires c κs = search needs
-
-add-t17-2 : tie.Need-add-t17-2
-add-t17-2 c = search needs
-
 returns : tie.Need-returns
 returns c = search (charged, needs)
 
@@ -37,13 +16,13 @@ pub charge-spec : {M : Type 1} → statement M
 charge-spec =
     tie.close
     (tie.spec
-    enum-told
-    enum-known-previous
-    elapsed-requires
-    inflow-requires
-    add-t17
-    outflow-requires
-    add-t17-2
+    (λ c. search needs)
+    (λ c. search needs)
+    (λ c κs. search needs)
+    (λ c κs. search needs)
+    (λ c. search needs)
+    (λ c κs. search needs)
+    (λ c. search needs)
     returns
     returns-2
     returns-3)

@@ -4,9 +4,6 @@ use borrow.Author.Needs.{needs}
 use Rattle.advance.proofs.command.Statement.{statement}
 use Rattle.advance.proofs.command.Tie as tie
 
-add-t11 : tie.Need-add-t11
-add-t11 c = search needs
-
 returns : tie.Need-returns
 returns c =
     let d = c .before .before .before .before .before in
@@ -16,4 +13,4 @@ returns-2 : tie.Need-returns-2
 returns-2 c = rw (le-ltb (c .before .before .before .args .l .tally .commands) commandCeiling (c .if1 .left))
 
 pub command-spec : {M : Type 1} → statement M
-command-spec = tie.close (tie.spec add-t11 returns returns-2)
+command-spec = tie.close (tie.spec (λ c. search needs) returns returns-2)

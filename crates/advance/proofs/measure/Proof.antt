@@ -5,15 +5,6 @@ use borrow.Author.Needs.{needs}
 use Rattle.advance.proofs.measure.Statement.{statement}
 use Rattle.advance.proofs.measure.Tie as tie
 
-accounts-room-requires : tie.Need-accounts-room-requires
-accounts-room-requires c κs = search needs
-
-observe-requires : tie.Need-observe-requires
-observe-requires c κs = search needs
-
-has-passed-requires : tie.Need-has-passed-requires
-has-passed-requires c κs = search needs
-
 charge-requires : tie.Need-charge-requires
 charge-requires c κs = let d = c .before .before .before in within-limits (d .before .before .args .l .tally) (sym (d .before .accounts-room .ensures) ∙ d .if1 .taken)
 
@@ -39,9 +30,9 @@ pub measure-spec : {M : Type 1} → statement M
 measure-spec =
     tie.close
     (tie.spec
-    accounts-room-requires
-    observe-requires
-    has-passed-requires
+    (λ c κs. search needs)
+    (λ c κs. search needs)
+    (λ c κs. search needs)
     charge-requires
     returns
     returns-2)

@@ -6,12 +6,6 @@ use Rattle.counter.proofs.increase.Tie as tie
 returns : tie.Need-returns
 returns c = let s = c .before .before in no-room (s .args .size) (s .args .digits .now) (search needs)
 
-carry-requires : tie.Need-carry-requires
-carry-requires c κs = search needs
-
-same-length : tie.Need-same-length
-same-length c = search needs
-
 returns-2 : tie.Need-returns-2
 returns-2 c =
     let s = c .before .before .before .before .before .before in
@@ -19,4 +13,4 @@ returns-2 c =
     room (s .args .size) (s .args .digits .now) (search needs) _ (carried .ensures .0) _ (carried .ensures .1)
 
 pub increase-spec : {M : Type 1} → statement M
-increase-spec = tie.close (tie.spec returns carry-requires same-length returns-2)
+increase-spec = tie.close (tie.spec returns (λ c κs. search needs) (λ c. search needs) returns-2)

@@ -21,9 +21,6 @@ loop-holds c = counted (c .args .n)
 add-k : tie.Need-add-k Inv-loop μ-loop
 add-k c = omega (arith, c .before .loop .inv, decimal-length 19 (c .before .before .args .n) (search needs))
 
-loop-less : tie.Need-loop-less Inv-loop μ-loop
-loop-less c = search needs
-
 loop-again : tie.Need-loop-again Inv-loop μ-loop
 loop-again c =
     omega (
@@ -37,4 +34,4 @@ returns : tie.Need-returns Inv-loop μ-loop
 returns c = counted-all (c .before .loop .k) (c .before .loop .rest) (c .before .before .args .n) (search needs) (c .before .loop .inv)
 
 pub places-spec : {M : Type 1} → statement M
-places-spec = tie.close (tie.spec Inv-loop μ-loop loop-holds add-k loop-less loop-again returns)
+places-spec = tie.close (tie.spec Inv-loop μ-loop loop-holds add-k (λ c. search needs) loop-again returns)

@@ -8,16 +8,10 @@ use Rattle.digits.proofs.put_decimal.Tie as tie
 returns : tie.Need-returns
 returns c = let s = c .before .before in unwritten (s .args .n) (s .args .at) (s .args .out .now) (omega (arith, c .if1 .taken))
 
-sub-if2 : tie.Need-sub-if2
-sub-if2 c = search needs
-
 returns-2 : tie.Need-returns-2
 returns-2 c =
     let s = c .before .before .before in
     unwritten (s .args .n) (s .args .at) (s .args .out .now) (omega (arith, c .before .if1 .left, c .if2 .taken))
-
-places-requires : tie.Need-places-requires
-places-requires c κs = search needs
 
 spell-requires : tie.Need-spell-requires
 spell-requires c κs =
@@ -32,9 +26,6 @@ add-result c =
     let s = e .before .before .before in
     omega (arith, e .before .if1 .left, e .if2 .left, c .before .before .before .before .places .ensures, decimal-length 19 (s .args .n) (search needs))
 
-same-length : tie.Need-same-length
-same-length c = search needs
-
 returns-3 : tie.Need-returns-3
 returns-3 c =
     let e = c .before .before .before .before .before in
@@ -46,10 +37,10 @@ put-decimal-spec =
     tie.close
     (tie.spec
     returns
-    sub-if2
+    (λ c. search needs)
     returns-2
-    places-requires
+    (λ c κs. search needs)
     spell-requires
     add-result
-    same-length
+    (λ c. search needs)
     returns-3)

@@ -14,17 +14,11 @@ not-negative : (z : ℤ) → ltZ z (pos 0) ≡ false → T (nonNeg z)
 not-negative (pos k) e = tt
 not-negative (negsuc k) e = subst T e tt
 
-returns : tie.Need-returns
-returns c = search needs
-
 cast-result : tie.Need-cast-result
 cast-result c =
     let z = c .before .args .z in
     let f : SFits w64 z = search needs in
     rw (toZ-ofZ f) (not-negative z (rw (toZ-ofZ f) at (c .if1 .left)), fits-natAbs tt f)
 
-returns-2 : tie.Need-returns-2
-returns-2 c = search needs
-
 pub natural-spec : {M : Type 1} → statement M
-natural-spec = tie.close (tie.spec returns cast-result returns-2)
+natural-spec = tie.close (tie.spec (λ c. search needs) cast-result (λ c. search needs))

@@ -15,11 +15,5 @@ returns c =
     let v = c .before .args in
     since-none (v .begun) (v .t) (v .since) (places (c .before)) (c .if1 .taken)
 
-since-each-requires : tie.Need-since-each-requires
-since-each-requires c κs = search needs
-
-returns-2 : tie.Need-returns-2
-returns-2 c = search needs
-
 pub since-all-spec : {M : Type 1} → statement M
-since-all-spec = tie.close (tie.spec returns since-each-requires returns-2)
+since-all-spec = tie.close (tie.spec returns (λ c κs. search needs) (λ c. search needs))

@@ -4,12 +4,6 @@ use borrow.Author.Needs.{needs}
 use Rattle.tracking.proofs.track.Statement.{statement}
 use Rattle.tracking.proofs.track.Tie as tie
 
-since-all-requires : tie.Need-since-all-requires
-since-all-requires c κs = search needs
-
-due-requires : tie.Need-due-requires
-due-requires c κs = search needs
-
 returns : tie.Need-returns
 returns c =
     let due = c .before in
@@ -19,4 +13,4 @@ returns c =
     (track-is (v .beyond) (v .within) (v .t) (v .k) (search needs) (search needs) (search needs) (search needs))
 
 pub track-spec : {M : Type 1} → statement M
-track-spec = tie.close (tie.spec since-all-requires due-requires returns)
+track-spec = tie.close (tie.spec (λ c κs. search needs) (λ c κs. search needs) returns)

@@ -9,12 +9,6 @@ returns c = let s = c .before .before in short (s .args .from) (s .args .to) (s 
 returns-2 : tie.Need-returns-2
 returns-2 c = let s = c .before .before .before in nothing (s .args .from) (s .args .to) (s .args .buffer .now) (c .before .if1 .left) (c .if2 .taken)
 
-shift-requires : tie.Need-shift-requires
-shift-requires c κs = search needs
-
-same-length : tie.Need-same-length
-same-length c = search needs
-
 returns-3 : tie.Need-returns-3
 returns-3 c =
     let d = c .before .before in
@@ -23,4 +17,4 @@ returns-3 c =
     all (s .args .from) (s .args .to) (s .args .buffer .now) (e .before .if1 .left) _ _ (d .shift .ensures)
 
 pub to-front-spec : {M : Type 1} → statement M
-to-front-spec = tie.close (tie.spec returns returns-2 shift-requires same-length returns-3)
+to-front-spec = tie.close (tie.spec returns returns-2 (λ c κs. search needs) (λ c. search needs) returns-3)

@@ -6,11 +6,5 @@ use Rattle.testing.proofs.print.signed16.Tie as tie
 cast-signed : tie.Need-cast-signed
 cast-signed c = rw (toZ-ofZ (c .fits .z)) (sfits-widen tt (c .fits .z))
 
-signed-requires : tie.Need-signed-requires
-signed-requires c κs = search needs
-
-returns : tie.Need-returns
-returns c = search needs
-
 pub signed16-spec : {M : Type 1} → statement M
-signed16-spec = tie.close (tie.spec cast-signed signed-requires returns)
+signed16-spec = tie.close (tie.spec cast-signed (λ c κs. search needs) (λ c. search needs))

@@ -10,29 +10,11 @@ returns c = no-head _ _ _ (omega arith)
 returns-2 : tie.Need-returns-2
 returns-2 c = cut-off _ _ _ (omega arith) (omega arith)
 
-sub-if3 : tie.Need-sub-if3
-sub-if3 c = search needs
-
 returns-3 : tie.Need-returns-3
 returns-3 c = cut-off _ _ _ (omega arith) (omega arith)
 
-add-start : tie.Need-add-start
-add-start c = search needs
-
-add-byte : tie.Need-add-byte
-add-byte c = search needs
-
-byte-requires : tie.Need-byte-requires
-byte-requires c κs = search needs
-
-sub-if4 : tie.Need-sub-if4
-sub-if4 c = search needs
-
 returns-4 : tie.Need-returns-4
 returns-4 c = cut-off _ _ _ (omega arith) (omega (arith, c .before .byte .ensures))
-
-add-t8 : tie.Need-add-t8
-add-t8 c = search needs
 
 returns-5 : tie.Need-returns-5
 returns-5 c = stands _ _ _ (omega arith) _ (c .before .byte .ensures) (omega arith)
@@ -43,12 +25,12 @@ case-at-spec =
     (tie.spec
     returns
     returns-2
-    sub-if3
+    (λ c. search needs)
     returns-3
-    add-start
-    add-byte
-    byte-requires
-    sub-if4
+    (λ c. search needs)
+    (λ c. search needs)
+    (λ c κs. search needs)
+    (λ c. search needs)
     returns-4
-    add-t8
+    (λ c. search needs)
     returns-5)

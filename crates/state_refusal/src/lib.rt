@@ -51,7 +51,7 @@ fn at_force_closed(s: State, commands: u32) -> u8
     match s {
         State::Unpowered => WRONG_POWER,
         State::Dormant => OTHER_NOT_ALLOWED,
-        State::Operational => OTHER_NOT_ALLOWED,
+        State::Operational => OTHER_NOT_ALLOWED, // Force closed in Maintenance only
         State::Maintenance => below_ceiling(commands),
     }
 }
@@ -83,7 +83,7 @@ fn at_override(s: State) -> u8
 {
     match s {
         State::Unpowered => WRONG_POWER,
-        State::Dormant => OTHER_NOT_ALLOWED,
+        State::Dormant => OTHER_NOT_ALLOWED, // override in Operational and Maintenance
         State::Operational => 0,
         State::Maintenance => 0,
     }
@@ -95,12 +95,13 @@ fn at_clear(s: State) -> u8
     match s {
         State::Unpowered => WRONG_POWER,
         State::Dormant => OTHER_NOT_ALLOWED,
-        State::Operational => OTHER_NOT_ALLOWED,
+        State::Operational => OTHER_NOT_ALLOWED, // clear in Maintenance
         State::Maintenance => 0,
     }
 }
 
-// 0 for a call that none of these rows refuses. The time of a measurement has a name so that the compiler doesn't take the event apart and put it together again.
+// 0 for a call that none of these rows refuses. The time of a measurement has a name so that the compiler doesn't take the event apart and put it
+// together again.
 pub fn by_state(s: State, commands: u32, e: Event) -> u8
     ensures { λ r. ⌜ r ≡ firstOf (stateChecks s commands e) ⌝ }
 {

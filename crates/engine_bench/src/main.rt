@@ -1,7 +1,7 @@
-// Times the engine: reads the log that its argument names and applies it again and again, each time from a fresh record, with each store
-// kept apart and written only where a call touches it. It prints how many events there are and how many calls are made, and for each of
-// three repetitions the processor time in nanoseconds, in all and per call, and the refusals: of calls on events that were read before, and
-// of reading and calls.
+// Times the engine: reads the log that its argument names and applies it again and again, each time from a fresh record. It prints how many
+// events there are and how many calls are made, and for each of three repetitions the processor time in nanoseconds, in all and per call, and
+// the refusals: of calls on events that were read before and of reading and calls, both with each store kept apart and written only where a
+// call touches it; and of calls that take a whole record, test all of its soundness and give a whole record back.
 use rules::answers::ReadEvent;
 use rules::battery::Record;
 use rules::calls::Event;
@@ -112,6 +112,33 @@ fn read_and_call(input: &[u8], first: Record) -> usize {
     refused
 }
 
+// The first of these two, by the engine's call on a whole record.
+fn call_whole(slots: [Slot; SLOTS], count: usize, first: Record) -> usize {
+    let mut held = first;
+    let mut refused: usize = 0;
+    let mut i: usize = 0;
+    let mut left = CALLS;
+    while 0 < left {
+        if count <= i {
+            i = 0;
+            held = first;
+        }
+        if SLOTS <= i {
+            return refused;
+        }
+        let slot = slots[i];
+        let e = slot.event;
+        let o = engine::apply(held, e);
+        held = o.after;
+        if o.refusal != 0 {
+            refused = std::num::wrapping_add_usize(refused, 1);
+        }
+        i += 1;
+        left -= 1;
+    }
+    refused
+}
+
 fn natural(z: i64) -> u64 {
     if z < 0 {
         return 0;
@@ -144,11 +171,14 @@ fn report(name: &[u8], start: i64, end: i64, refused: usize) {
 fn repeat(input: &[u8], slots: [Slot; SLOTS], count: usize, first: Record) {
     let start = libc::clock();
     let refused = call(slots, count, first);
-    let middle = libc::clock();
-    let again = read_and_call(input, first);
+    let called = libc::clock();
+    let read = read_and_call(input, first);
+    let both = libc::clock();
+    let whole = call_whole(slots, count, first);
     let end = libc::clock();
-    report(b"calls ", start, middle, refused);
-    report(b"reading and calls ", middle, end, again);
+    report(b"calls ", start, called, refused);
+    report(b"reading and calls ", called, both, read);
+    report(b"calls on a whole record ", both, end, whole);
 }
 
 fn run(input: &[u8]) {

@@ -4,7 +4,7 @@ ghost use Rattle.counter.specs.Counting.{counter_of, carried, grown, increased, 
 
 // A buffer that begins with a number's digits, with zeros behind them, and how many digits there are. None of 64 bits, or the next, has
 // more than 20.
-#[derive(Drop)]
+#[derive(Clone, Copy)]
 pub struct Counter {
     pub digits: [u8; 21],
     pub size: usize,

@@ -4,7 +4,7 @@ ghost use Rattle.std.specs.Prelude.{◌≡◌, eqb};
 ghost use Rattle.decision.specs.Decisions.{after_lines, after_part, after_read, reads, ends};
 
 // Why no more events were taken from a part.
-#[derive(Drop)]
+#[derive(Clone, Copy)]
 pub enum Why {
     // the output has no room for another line
     Full,
@@ -18,7 +18,7 @@ pub enum Why {
     Spent,
 }
 
-#[derive(Drop)]
+#[derive(Clone, Copy)]
 pub enum Next {
     // the rest of what is in the buffer
     Again,

@@ -21,7 +21,7 @@ const STARTS: usize = 6;
 
 const ROUNDS: usize = 977;
 
-#[derive(Drop)]
+#[derive(Clone, Copy)]
 struct Slot {
     event: Event,
 }

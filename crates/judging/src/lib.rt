@@ -12,7 +12,7 @@ use rules::refusals::UNSOUND;
 use rules::stores::Stores;
 
 // What a call makes of the live part, with its refusal, and whether the stores change.
-#[derive(Drop)]
+#[derive(Clone, Copy)]
 pub struct Judged {
     pub refusal: u8,
     pub live: Live,

@@ -60,7 +60,7 @@ abbrev in_order : ℕ → List Frame → Bool
 in_order last [] = true
 in_order last (f ∷ later) = leb last f.at && in_order f.at later
 
-timely : {frames : List Frame} {taken : List Measured} (start last now : ℕ) → now ≤ start + last → T (in_order last frames)
+timely : (start : ℕ) {frames : List Frame} {taken : List Measured} (last now : ℕ) → now ≤ start + last → T (in_order last frames)
     → Forall₂ (Meets start) frames taken → Timely now taken
 timely start last now h o Forall₂.nil = tt
 timely start last now h o (Forall₂.cons {a = f} {b = m} {l₁ = fs} x xs) =

@@ -22,6 +22,7 @@ at_index (p and ps) zero h d = p
 at_index (p and ps) (suc i) h d = at_index ps i (le_of_suc-le-suc h) d
 
 pub of_member : {A : Type 0} {P : A → Type 0} {x : A} {xs : List A} → Each P xs → Memᴰ x xs → P x
+of_member none m = elim m [ ]
 of_member {P = P} (p and ps) (Memᴰ.head e) = subst P (sym e) p
 of_member (p and ps) (Memᴰ.tail m) = of_member ps m
 

@@ -5,7 +5,7 @@ use crate::stores::Entry;
 
 // What reading an event at a position of a log finds: an event and the position after it; no byte left; or a refusal and the position
 // of the kind byte.
-#[derive(Drop)]
+#[derive(Clone, Copy)]
 pub enum ReadEvent {
     Found(Event, usize),
     End,
@@ -13,7 +13,7 @@ pub enum ReadEvent {
 }
 
 // The same of a stored entry.
-#[derive(Drop)]
+#[derive(Clone, Copy)]
 pub enum ReadEntry {
     Found(Entry, usize),
     End,
@@ -21,21 +21,21 @@ pub enum ReadEntry {
 }
 
 // How many bytes were written, or the refusal.
-#[derive(Drop)]
+#[derive(Clone, Copy)]
 pub enum Written {
     Bytes(usize),
     Refused(u8),
 }
 
 // A fresh record, with the refusal of its type.
-#[derive(Drop)]
+#[derive(Clone, Copy)]
 pub struct Fresh {
     pub refusal: u8,
     pub start: Record,
 }
 
 // What a call leaves, with its refusal.
-#[derive(Drop)]
+#[derive(Clone, Copy)]
 pub struct Outcome {
     pub refusal: u8,
     pub after: Record,

@@ -1,7 +1,7 @@
 // What one measurement reads: 13 sensors.
 use crate::units::{DeciCelsius, Milliamperes, Millivolts};
 
-#[derive(Drop)]
+#[derive(Clone, Copy)]
 pub struct Reading {
     pub cell0: Millivolts,
     pub cell1: Millivolts,
@@ -19,7 +19,7 @@ pub struct Reading {
 }
 
 // The cells and temperatures that the protections look at.
-#[derive(Drop)]
+#[derive(Clone, Copy)]
 pub struct Extremes {
     pub highest: Millivolts,
     pub lowest: Millivolts,

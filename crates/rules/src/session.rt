@@ -3,7 +3,7 @@ use crate::states::TestResult;
 use crate::units::{Milliamperes, Milliseconds};
 
 // The last measurement, if it was plausible: its time and current.
-#[derive(Drop)]
+#[derive(Clone, Copy)]
 pub enum Previous {
     Nothing,
     Frame(Milliseconds, Milliamperes),
@@ -13,7 +13,7 @@ pub enum Previous {
 // tripped, those whose longest span that ends at the last measurement is a beyond span, and those for which it is a within span; and for
 // each the time of the first measurement of that span. Four bytes lead, so that no field stands behind a gap: gaps are copied piece by
 // piece. specs/Shown has what these fields show of one protection.
-#[derive(Drop)]
+#[derive(Clone, Copy)]
 pub struct Watch {
     pub test: TestResult,
     pub tripped: u8,

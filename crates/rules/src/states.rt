@@ -1,5 +1,5 @@
 // What a battery is in: document 01, "States", "The built-in test" and "The contactor".
-#[derive(Drop)]
+#[derive(Clone, Copy)]
 pub enum State {
     Unpowered,
     Dormant,
@@ -7,14 +7,14 @@ pub enum State {
     Maintenance,
 }
 
-#[derive(Drop)]
+#[derive(Clone, Copy)]
 pub enum TestResult {
     NotRun,
     Passed,
     Failed,
 }
 
-#[derive(Drop)]
+#[derive(Clone, Copy)]
 pub enum Contactor {
     Open,
     Closed,

@@ -1,18 +1,18 @@
 // Document 01, "Quantities": one type for each unit, so that one is never accepted for another.
-#[derive(Drop)]
+#[derive(Clone, Copy)]
 pub struct Millivolts(pub u16);
 
 // Positive on charge.
-#[derive(Drop)]
+#[derive(Clone, Copy)]
 pub struct Milliamperes(pub i32);
 
-#[derive(Drop)]
+#[derive(Clone, Copy)]
 pub struct Milliseconds(pub u32);
 
 // Tenths of a degree Celsius.
-#[derive(Drop)]
+#[derive(Clone, Copy)]
 pub struct DeciCelsius(pub i16);
 
 // Milliampere-milliseconds.
-#[derive(Drop)]
+#[derive(Clone, Copy)]
 pub struct Charge(pub u64);

@@ -5,7 +5,7 @@ ghost use Rattle.testing.specs.Table.{case_at};
 use crate::slice;
 
 // Where a case's head ends, and where the case does.
-#[derive(Drop)]
+#[derive(Clone, Copy)]
 pub enum Next {
     Case(usize, usize),
     End,

@@ -7,7 +7,7 @@ ghost use Rattle.tracking.specs.Masks.{since_all, tracked_by};
 use rules::units::Milliseconds;
 
 // What a record keeps of the protections: the fields of the same names of what is watched.
-#[derive(Drop)]
+#[derive(Clone, Copy)]
 pub struct Kept {
     pub tripped: u8,
     pub beyond: u8,

@@ -14,7 +14,7 @@ use tracking::Kept;
 
 // What a measurement shows: whether it is plausible; the protections that it then is beyond and those that it is within, as masks with bit =
 // number; its failed sensors.
-#[derive(Drop)]
+#[derive(Clone, Copy)]
 pub struct Seen {
     pub plausible: bool,
     pub beyond: u8,

@@ -15,7 +15,7 @@ use Rattle.rules.specs.Protections.{row_of}
 use Rattle.rules.specs.Trips.{Measured}
 use Rattle.rules.specs.Ledger.{Ledger, set_control, test_of, TrippedOn, is_tripped_on}
 use Rattle.rules.specs.Contactor.{StateAndCommand, PermitsClosing, InForce, AllLiftable, NoneTripped, SomeTripped, Closed, ContactorsDiffer, state_and_command, is_lifted, is_closed}
-use Rattle.rules.proofs.Bools.{both, and_iff, is_true, unless}
+use Rattle.rules.proofs.Bools.{both, is_true, unless}
 use Rattle.rules.proofs.Lists.{all_places, some_place}
 use Rattle.rules.proofs.Decide.{is_tripped_lem}
 

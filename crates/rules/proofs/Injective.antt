@@ -26,7 +26,7 @@ use Rattle.rules.specs.declared.answers.ReadEntry.TheVariants.{Found as FoundEnt
 use Rattle.rules.specs.declared.answers.Written.{Written}
 use Rattle.rules.specs.declared.answers.Written.TheVariants.{Bytes, Refused}
 use Rattle.rules.specs.Quantities.{ms}
-use Rattle.rules.specs.Numbers.{state_number, request_number, command_number, override_number, test_number, contactor_number, event_kind, event_values, entry_kind, entry_values, request_of, command_of, override_of, signed, unsigned, event_of, ReadAnswer, found, end, ReadAnswer.refused, answer_of_read_event, answer_of_read_entry, WriteAnswer, bytes, answer_of_write}
+use Rattle.rules.specs.Numbers.{state_number, request_number, command_number, override_number, test_number, contactor_number, event_kind, event_values, entry_kind, entry_values, request_of, command_of, override_of, signed, unsigned, event_of, ReadAnswer, found, end, answer_of_read_event, answer_of_read_entry, WriteAnswer, bytes, answer_of_write}
 use Rattle.rules.specs.Numbers.{WriteAnswer.refused as not_written}
 
 -- a map that can be undone takes no two for one

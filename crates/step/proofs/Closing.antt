@@ -1,6 +1,6 @@
 -- The step's contactor is the rules' test `is_closed` on the ledger that the record shows; what that decides, and how it differs between
 -- two runs, is rules!Closing's.
-use mathlib.Core.Path.{◌≡◌, refl, sym, ap, ◌∙◌}
+use mathlib.Core.Path.{◌≡◌, refl, ap, ◌∙◌}
 use mathlib.Core.Logic.{◌↔◌, ◌≢◌}
 use mathlib.Core.Bool.{Bool, true, false, not, cond, ◌&&◌, ◌||◌}
 use mathlib.Core.List.{List}
@@ -15,7 +15,7 @@ use Rattle.rules.specs.declared.battery.Record.{Record}
 use Rattle.rules.specs.Lists.{all}
 use Rattle.rules.specs.Numbers.{test_number, contactor_number}
 use Rattle.rules.specs.Protections.{row_of}
-use Rattle.rules.specs.Ledger.{Ledger, Accepted, test_of, is_tripped_on}
+use Rattle.rules.specs.Ledger.{Ledger, Accepted, is_tripped_on}
 use Rattle.rules.specs.Contactor.{Closed, ContactorsDiffer, is_lifted, is_closed}
 use Rattle.rules.specs.Shown.{bit_of}
 use Rattle.rules.proofs.Lists.{tabulate_ext}

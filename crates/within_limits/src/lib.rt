@@ -1,5 +1,7 @@
 // The limits of document 01's table that a measurement is within, in the table's order. That of charge overcurrent is what is permitted; those of
 // short circuit and discharge overcurrent are one, by battery type.
+#![tactic(auto)]
+
 ghost use Rattle.std.specs.Prelude.{◌≡◌};
 ghost use Rattle.rules.specs.Quantities.{negated, discharge_rating};
 

@@ -1,4 +1,6 @@
 // The highest and lowest cell of a measurement, its hottest and coldest temperature; how far two cells are apart.
+#![tactic(auto)]
+
 ghost use Rattle.std.specs.Prelude.{[], ◌∷◌, ◌≡◌, ◌-◌};
 ghost use Rattle.rules.specs.Quantities.{mv};
 ghost use Rattle.rules.specs.Protections.{higher, lower, hotter, colder, picked, extremes};

@@ -1,4 +1,6 @@
 // The hold and the release time of each row of document 01's table.
+#![tactic(auto)]
+
 ghost use Rattle.std.specs.Prelude.{◌≡◌, ℕ};
 ghost use Rattle.rules.specs.Protections.{row_of};
 

@@ -1,4 +1,6 @@
 // What the calls that set one thing make of the live part of a record once accepted: power on and power loss, override, clear.
+#![tactic(auto)]
+
 ghost use Rattle.std.specs.Prelude.{◌≡◌};
 ghost use Rattle.step.specs.Call.{border_live, set_live, override_control};
 

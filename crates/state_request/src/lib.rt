@@ -1,4 +1,6 @@
 // What an accepted state request makes of the live part of a record.
+#![tactic(auto)]
+
 ghost use Rattle.std.specs.Prelude.{◌≡◌, cond};
 ghost use Rattle.rules.specs.States.{requested, is_change, enters_dormant};
 ghost use Rattle.step.specs.Call.{set_live, request_control};

@@ -1,4 +1,6 @@
 // The time from one moment to another.
+#![tactic(auto)]
+
 ghost use Rattle.std.specs.Prelude.{◌≡◌};
 ghost use Rattle.rules.specs.Quantities.{elapsed as elapsed_of};
 

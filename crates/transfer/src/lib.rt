@@ -1,55 +1,76 @@
 // Reads and writes that a signal does not break off.
-ghost use Rattle.std.specs.Prelude.{◌≤◌, length};
-ghost use Rattle.libc.specs.Io.{Moved};
+#![tactic(auto)]
 
-// One read that a signal did not break off: how many bytes it put at the start of the buffer, 0 at the end of the input, -1 where it
+ghost use Rattle.std.specs.Prelude.{◌≤◌, length, IfOk};
+
+use std::io;
+use std::io::{ErrorKind, Read, Write};
+
+// How many bytes of a slice were written, and the error that ended it where there was one.
+#[derive(Clone, Copy)]
+pub struct Put {
+    pub count: usize,
+    pub error: Option<io::Error>,
+}
+
+// One read that a signal did not break off: how many bytes it put at the start of the buffer, 0 at the end of the input, or why it
 // failed.
-pub fn read_some(fd: i32, buffer: &mut [u8]) -> isize
-    ensures { Moved (length buffer.old) result }
+pub fn read_some<R: Read>(input: &mut R, buffer: &mut [u8]) -> io::Result<usize>
+    ensures { IfOk result (λ n. n ≤ length buffer.old) }
 {
-    let mut turns = u64::MAX;
-    while turns > 0 {
-        let got = libc::read(fd, buffer);
-        if got >= 0 {
-            return got;
+    for _ in 0..u64::MAX {
+        match input.read(buffer) {
+            Ok(got) => return Ok(got),
+            Err(error) => {
+                if error.kind() != ErrorKind::Interrupted {
+                    return Err(error);
+                }
+            }
         }
-        if os::errno() != libc::EINTR {
-            return got;
-        }
-        turns -= 1;
     }
-    -1
+    Err(io::Error::from(ErrorKind::Interrupted))
 }
 
-fn write_some(fd: i32, bytes: &[u8]) -> isize
-    ensures { Moved (length bytes.now) result }
+fn write_some<W: Write>(output: &mut W, bytes: &[u8]) -> io::Result<usize>
+    ensures { IfOk result (λ n. n ≤ length bytes.now) }
 {
-    let mut turns = u64::MAX;
-    while turns > 0 {
-        let put = libc::write(fd, bytes);
-        if put >= 0 {
-            return put;
+    for _ in 0..u64::MAX {
+        match output.write(bytes) {
+            Ok(put) => return Ok(put),
+            Err(error) => {
+                if error.kind() != ErrorKind::Interrupted {
+                    return Err(error);
+                }
+            }
         }
-        if os::errno() != libc::EINTR {
-            return put;
-        }
-        turns -= 1;
     }
-    -1
+    Err(io::Error::from(ErrorKind::Interrupted))
 }
 
-// Writes the bytes, and answers how many of them were written. Where that is not all, errno says why.
-pub fn write_all(fd: i32, bytes: &[u8]) -> usize
-    ensures { result ≤ length bytes.now }
+// Writes the bytes, and answers how many of them were written. Where that is not all, the error says why.
+pub fn write_all<W: Write>(output: &mut W, bytes: &[u8]) -> Put
+    ensures { result.count ≤ length bytes.now }
 {
     let mut done: usize = 0;
     while done < bytes.len() {
-        let put = write_some(fd, &bytes[done..]);
-        let n = io::count(put, &bytes[done..]);
-        if n == 0 {
-            return done;
+        match write_some(output, &bytes[done..]) {
+            Ok(0) => {
+                return Put {
+                    count: done,
+                    error: Some(io::Error::from(ErrorKind::WriteZero)),
+                };
+            }
+            Ok(n) => done += n,
+            Err(error) => {
+                return Put {
+                    count: done,
+                    error: Some(error),
+                };
+            }
         }
-        done += n;
     }
-    done
+    Put {
+        count: done,
+        error: None,
+    }
 }

@@ -1,11 +1,9 @@
 -- A measurement that passes the test of calm is within the limits of all eight protections.
-use mathlib.Core.Path.{◌≡◌, refl, sym, subst}
-use mathlib.Core.Bool.{Bool, true, false, cond, ◌&&◌, ◌||◌}
-use Prim.Native.Nat.{ℕ, ◌+◌, ◌*◌, ◌/◌, ◌≤◌, ◌<◌, zero-le}
+use mathlib.Core.Bool.{Bool, true, false, cond, ◌||◌}
+use Prim.Native.Nat.{ℕ, ◌+◌, ◌*◌, ◌≤◌, ◌<◌, zero-le}
 use native.Mathlib.Nat.{mul-le-mul}
 use native.Mathlib.Omega.{arith}
-use borrow.Author.Tests.{ltb-true, ltb-false}
-use lib.Dec.{T, leb, ltb, eqb, leb→le, le→leb}
+use lib.Dec.{T, ltb, eqb, leb→le, le→leb}
 use lib.IntN.{ℤ, pos, negsuc, nat_abs}
 use lib.Signed.{le_z}
 use mir.Facts.{and_yes}
@@ -15,8 +13,6 @@ use Rattle.rules.specs.declared.sensors.Reading.{Reading}
 use Rattle.rules.specs.Lists.{Each, none, ◌and◌}
 use Rattle.rules.specs.Quantities.{mv, ma, dc, ◌≤mV◌, ◌≤mA◌, ◌≤dC◌, negated, charge_rating, discharge_rating}
 use Rattle.rules.specs.Protections.{Protection, overvoltage, highest, lowest, hottest, coldest, spread, curve, permitted_at, permitted, table, row_of}
-use Rattle.rules.specs.Test.{greatest_current, current_in_range}
-use Rattle.rules.proofs.Bools.{and_iff}
 use Rattle.rules.proofs.Lists.{at_index}
 use Rattle.rules.proofs.Order.{at_most_trans}
 use Rattle.calm.specs.Calm.{permitted_from, surely_permitted, is_calm}

@@ -1,4 +1,6 @@
 // Whether a measurement is within all limits, told by few tests.
+#![tactic(auto)]
+
 ghost use Rattle.std.specs.Prelude.{◌&&◌, ◌≡◌, pos};
 ghost use Rattle.rules.specs.Quantities.{ma, ◌≤mV◌, ◌≤mA◌, ◌≤dC◌};
 ghost use Rattle.calm.specs.Calm.{surely_permitted, is_calm};

@@ -3,8 +3,8 @@
 
 ghost use Rattle.std.specs.Prelude.{◌≤◌, length, IfOk};
 
-use std::io;
-use std::io::{ErrorKind, Read, Write};
+use std::io::{Cursor, ErrorKind, Read, Write};
+use std::{io, str};
 
 // How many bytes of a slice were written, and the error that ended it where there was one.
 #[derive(Clone, Copy)]
@@ -73,4 +73,27 @@ pub fn write_all<W: Write>(output: &mut W, bytes: &[u8]) -> Put
         count: done,
         error: None,
     }
+}
+
+// The text of an error ends in the number that the system has for it.
+fn without_number(text: &[u8]) -> &[u8] {
+    match str::from_utf8(text) {
+        Ok(words) => match words.rsplit_once(" (os error ") {
+            Some((reason, _)) => reason.as_bytes(),
+            None => text,
+        },
+        Err(_) => text,
+    }
+}
+
+// A line that says what failed and why. Where it can't be written, there is nowhere left to say so.
+pub fn fail<E: Write>(errors: &mut E, what: &[u8], why: io::Error) {
+    let mut text = Cursor::new([0u8; 256]);
+    let _ = write!(text, "{why}");
+    let end = text.position() as usize;
+    let buffer = text.into_inner();
+    let _ = errors.write_all(what);
+    let _ = errors.write_all(b": ");
+    let _ = errors.write_all(without_number(&buffer[..end.min(256)]));
+    let _ = errors.write_all(b"\n");
 }

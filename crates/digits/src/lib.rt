@@ -1,4 +1,6 @@
 // Numbers as text, in ASCII.
+#![tactic(auto)]
+
 ghost use Rattle.std.specs.Prelude.{◌≡◌, ◌+◌, ◌≤◌, ◌<◌, length};
 ghost use Rattle.rules.specs.Bytes.{overwritten};
 ghost use Rattle.rules.specs.Text.{decimal, digit as digit_of, hex_pair};

@@ -1,7 +1,7 @@
 -- Counting up in digits is adding 1.
 use mathlib.Core.Path.{◌≡◌, refl, sym, ap, subst, ◌∙◌}
 use mathlib.Core.Bool.{Bool, true, false, cond}
-use mathlib.Core.List.{List, [], ◌∷◌, ◌++◌, append_assoc}
+use mathlib.Core.List.{List, [], ◌∷◌, ◌++◌}
 use Prim.Native.Nat.{ℕ, zero, suc, ◌+◌, ◌-◌, ◌/◌, ◌%◌, ◌<◌, ◌≤◌}
 use native.Mathlib.Nat.{not-suc-le-zero}
 use native.Mathlib.Omega.{arith}
@@ -9,10 +9,10 @@ use borrow.Author.Tests.{ltb-true, ltb-false, lt-ltb, le-ltb}
 use lib.Dec.{ltb}
 use lib.ListN.{length, get_or, set, replicate, length-append}
 use lib.Seq.{append_snoc, get_or-append_seam, set-append_seam}
-use Rattle.rules.specs.Text.{digit, decimal}
+use Rattle.rules.specs.Text.{decimal}
 use Rattle.rules.proofs.Decimals.{decimal_small, decimal_large}
 use Rattle.digits.proofs.Spelling.{digit_small}
-use Rattle.counter.specs.Counting.{padded, digits_in, carried, grown, increased, size_after}
+use Rattle.counter.specs.Counting.{padded, digits_in, carried, grown}
 
 -- ---- a list of digits and the last one
 

@@ -1,4 +1,6 @@
 // A number kept in its decimal digits and counted up in them, since a division for each digit of each number costs more.
+#![tactic(auto)]
+
 ghost use Rattle.std.specs.Prelude.{◌≡◌, ◌+◌, ◌<◌, length};
 ghost use Rattle.counter.specs.Counting.{counter_of, carried, grown, increased, size_after, CountsUp};
 

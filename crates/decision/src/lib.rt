@@ -1,5 +1,7 @@
 // What a run of the program does next, and why the lines of a part end, which `lines` answers. All that decides it stands here; `console`
 // does what is decided.
+#![tactic(auto)]
+
 ghost use Rattle.std.specs.Prelude.{◌≡◌, eqb};
 ghost use Rattle.decision.specs.Decisions.{after_lines, after_part, after_read, reads, ends};
 

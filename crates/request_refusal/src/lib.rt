@@ -1,4 +1,6 @@
 // The refusal of a state request: rows 8 and 9 of document 01's table.
+#![tactic(auto)]
+
 ghost use Rattle.std.specs.Prelude.{◌≡◌};
 ghost use Rattle.rules.specs.Refusals.{first_of};
 ghost use Rattle.request_refusal.specs.Rows.{request_checks};

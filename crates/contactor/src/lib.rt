@@ -1,4 +1,6 @@
 // The contactor of a record, worked out when asked.
+#![tactic(auto)]
+
 ghost use Rattle.std.specs.Prelude.{◌≡◌, not, ◌&&◌};
 ghost use Rattle.rules.specs.Contactor.{state_and_command};
 ghost use Rattle.rules.specs.Protections.{row_of, mask_below};

@@ -1,4 +1,6 @@
 // The refusal of a call by the state and the command count: rows 8 to 10 of document 01's table.
+#![tactic(auto)]
+
 ghost use Rattle.std.specs.Prelude.{◌≡◌, not, cond, ltb};
 ghost use Rattle.rules.specs.States.{is_powered, command_ceiling, command_allowed, override_allowed, clear_allowed};
 ghost use Rattle.rules.specs.Refusals.{first_of};

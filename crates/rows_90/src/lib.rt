@@ -1,4 +1,6 @@
 // The permitted charge current for a charge rating of 90,000 mA, from 0 °C on, read from printed rows.
+#![tactic(auto)]
+
 ghost use Rattle.std.specs.Prelude.{◌≡◌, pos};
 ghost use Rattle.rules.specs.Quantities.{ma};
 ghost use Rattle.rules.specs.Protections.{permitted_at};

@@ -1,5 +1,7 @@
 // Which of the eight protections are due, as a mask with bit = number: those asked whose span has lasted its hold time, if they are beyond, or
 // else its release time.
+#![tactic(auto)]
+
 ghost use Rattle.std.specs.Prelude.{cond, ◌≡◌, ◌<◌, ◌≤◌};
 ghost use Rattle.due.specs.Due.{has, weigh, due_at, due_all};
 

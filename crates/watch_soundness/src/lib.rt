@@ -1,4 +1,6 @@
 // Document 01, "Unsound": what of it the watch of a session can be, as a test.
+#![tactic(auto)]
+
 ghost use Rattle.std.specs.Prelude.{◌≡◌, not, ◌||◌, ◌/◌, ◌%◌, ◌<◌, eqb};
 ghost use Rattle.rules.specs.Quantities.{◌≤ms◌};
 ghost use Rattle.rules.specs.Lists.{all, tabulate};

@@ -1,1 +1,3 @@
+#![tactic(auto)]
+
 // What is left in a buffer that texts are put into: a definition and proofs alone.

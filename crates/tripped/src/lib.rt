@@ -1,4 +1,6 @@
 // The tripped protections of a record as a mask. It reads the live part alone.
+#![tactic(auto)]
+
 ghost use Rattle.std.specs.Prelude.{◌≡◌};
 ghost use Rattle.step.specs.Print.{tripped_of};
 

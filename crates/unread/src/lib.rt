@@ -1,4 +1,6 @@
 // The part of a buffer that has not been read yet.
+#![tactic(auto)]
+
 ghost use Rattle.std.specs.Prelude.{◌≡◌, ◌-◌, ◌≤◌, length};
 ghost use Rattle.unread.specs.Tail.{tail_first, tail_length, tail_moved};
 

@@ -1,5 +1,7 @@
 // The charge current that a battery permits at its coldest temperature, read from the printed rows of its charge rating, and what a current is
 // held against as a charge.
+#![tactic(auto)]
+
 ghost use Rattle.std.specs.Prelude.{◌≡◌};
 ghost use Rattle.rules.specs.Protections.{permitted};
 ghost use Rattle.permitted.specs.Bound.{charge_bound};

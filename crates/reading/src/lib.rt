@@ -1,4 +1,6 @@
 // One measurement: which sensors failed, and whether it is plausible.
+#![tactic(auto)]
+
 ghost use Rattle.std.specs.Prelude.{cond, [], ◌∷◌, ◌≡◌, ◌≤◌};
 ghost use Rattle.std.specs.Int.Count.{ones};
 ghost use Rattle.rules.specs.Test.{cell_in_range, current_in_range, temperature_in_range, plausible, mask_of, failed_mask};

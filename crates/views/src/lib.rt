@@ -1,5 +1,7 @@
 // What a caller prints of a record, as document 01's numbers. All but the counts of entries read the live part alone, so that a loop may
 // keep the stores elsewhere.
+#![tactic(auto)]
+
 ghost use Rattle.std.specs.Prelude.{◌≡◌, length};
 ghost use Rattle.rules.specs.Numbers.{state_number, command_number, override_number, test_number, contactor_number};
 ghost use Rattle.rules.specs.Shown.{long_entries, short_entries};

@@ -1,9 +1,0 @@
-use borrow.Author.Rules.{rules}
-use Rattle.soundness.proofs.sound.Statement.{statement}
-use Rattle.soundness.proofs.sound.Tie as tie
-
-returns : tie.Need-returns
-returns c = rw (c.before.rest.ensures, c.accounts.ensures)
-
-pub sound-spec : {M : Type 1} → statement M
-sound-spec = tie.close (tie.spec (λ c κs. search rules) (λ c κs. search rules) returns)

@@ -1,4 +1,6 @@
 // The refusal of a call on a sound record: document 01's table, row by row.
+#![tactic(auto)]
+
 ghost use Rattle.std.specs.Prelude.{◌≡◌};
 ghost use Rattle.rules.specs.Calls.{time_of};
 ghost use Rattle.rules.specs.Refusals.{refusal as refusal_by_table};

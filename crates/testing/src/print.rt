@@ -1,26 +1,29 @@
-// Text on standard output.
+// Text for a writer, which is standard output where a program prints.
 ghost use Rattle.std.specs.Prelude.{◌≡◌};
 
-pub fn text(s: &[u8]) {
-    io::write_all(libc::STDOUT_FILENO, s);
+use std::io;
+use std::io::Write;
+
+pub fn text<W: Write>(out: &mut W, s: &[u8]) -> io::Result<()> {
+    out.write_all(s)
 }
 
-pub fn decimal(n: u64) {
-    io::print_decimal(libc::STDOUT_FILENO, n);
+pub fn decimal<W: Write>(out: &mut W, n: u64) -> io::Result<()> {
+    write!(out, "{n}")
 }
 
-pub fn signed(z: i32) {
+pub fn signed<W: Write>(out: &mut W, z: i32) -> io::Result<()> {
     let bits = word_writer::bits32(z) as u64;
     if z < 0 {
-        text(b"-");
-        decimal(4_294_967_296 - bits);
+        text(out, b"-")?;
+        decimal(out, 4_294_967_296 - bits)
     } else {
-        decimal(bits);
+        decimal(out, bits)
     }
 }
 
-pub fn signed16(z: i16) {
-    signed(z as i32);
+pub fn signed16<W: Write>(out: &mut W, z: i16) -> io::Result<()> {
+    signed(out, z as i32)
 }
 
 fn wide(x: u8) -> u64
@@ -30,17 +33,19 @@ fn wide(x: u8) -> u64
 }
 
 // Two digits for each byte.
-pub fn hex(s: &[u8]) {
+pub fn hex<W: Write>(out: &mut W, s: &[u8]) -> io::Result<()> {
     let mut i = 0;
     while i < s.len() {
-        io::print_hex(libc::STDOUT_FILENO, wide(s[i]), 2);
+        let byte = wide(s[i]);
+        write!(out, "{byte:02x}")?;
         i += 1;
     }
+    Ok(())
 }
 
 // A name and a value.
-pub fn line(name: &[u8], n: u64) {
-    text(name);
-    decimal(n);
-    text(b"\n");
+pub fn line<W: Write>(out: &mut W, name: &[u8], n: u64) -> io::Result<()> {
+    text(out, name)?;
+    decimal(out, n)?;
+    text(out, b"\n")
 }

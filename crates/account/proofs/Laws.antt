@@ -34,7 +34,7 @@ small_fits (negsuc n) h = record { sfits = omega (arith, h) }
 
 -- a number of 32 bits, read at 64
 wide : {z : ℤ} → SFits w32 z → to_z w64 (of_z w64 (to_z w32 (of_z w32 z))) ≡ z
-wide f = rw (to_z-of_z f) (to_z-of_z (sfits_widen tt f))
+wide f = rw (to_z-of_z f) (to_z-of_z {w = w64} (sfits_widen {w' = w64} tt f))
 
 pub wide_fits : {z : ℤ} → SFits w32 z → SFits w64 (to_z w32 (of_z w32 z))
 wide_fits f = rw (to_z-of_z f) (sfits_widen tt f)

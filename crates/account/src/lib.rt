@@ -1,4 +1,6 @@
 // What two neighbouring currents, a time apart, add to either account: the charge of their mean.
+#![tactic(auto)]
+
 ghost use Rattle.std.specs.Prelude.{◌≡◌, ◌≤◌, ◌*◌, ◌/◌, nat_abs};
 ghost use Rattle.rules.specs.Quantities.{ma_ms, sum as sum_of};
 ghost use Rattle.rules.specs.Accounts.{flow, halved, positive_part, negative_part};

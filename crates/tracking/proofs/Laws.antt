@@ -4,14 +4,14 @@ use mathlib.Core.Bool.{Bool, true, false, not, cond, ◌&&◌, ◌||◌}
 use mathlib.Core.List.{List}
 use Prim.Native.Nat.{ℕ, ◌-◌, ◌<◌}
 use native.Mathlib.Omega.{arith}
-use lib.Bits.{bit_and, bit_or, or_lt, and_le_l, and_le_r}
+use lib.Bits.{bit_and, bit_or, or_lt, and_le_l}
 use lib.ListN.{get_or, length}
 use Rattle.rules.specs.declared.units.Milliseconds.{Milliseconds}
 use Rattle.rules.specs.Lists.{tabulate}
 use Rattle.rules.specs.Quantities.{ms, ◌≤ms◌, elapsed}
 use Rattle.rules.specs.Protections.{row_of, mask_below}
 use Rattle.rules.specs.Shown.{Span, Idle, Beyond, Within, bit_of, span_of}
-use Rattle.rules.proofs.Bits.{mask_below_lem, bit_of_mask, mask_is, mask_same, bit_and_lem, bit_or_lem, bit_not, bit_of_none}
+use Rattle.rules.proofs.Bits.{mask_below_lem, bit_of_mask, mask_is, bit_and_lem, bit_or_lem, bit_not, bit_of_none}
 use Rattle.rules.proofs.Lists.{at_place, tabulate_ext, tabulate_places}
 use Rattle.step.specs.Track.{span_at, tripped_at, is_beyond, is_within, start_or}
 use Rattle.tracking.specs.declared.Kept.{Kept}

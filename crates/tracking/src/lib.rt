@@ -1,5 +1,7 @@
 // Eight protections, tracked from one measurement to the next: their longest spans that end now, and which of them are tripped. All of it
 // goes by masks, bit = number, so that most measurements are done with after a test or two.
+#![tactic(auto)]
+
 ghost use Rattle.std.specs.Prelude.{cond, ◌≡◌, ◌<◌};
 ghost use Rattle.due.specs.Due.{has};
 ghost use Rattle.tracking.specs.Masks.{since_all, tracked_by};

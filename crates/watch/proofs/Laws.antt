@@ -7,7 +7,6 @@ use Prim.Native.Nat.{ℕ, ◌<◌}
 use native.Mathlib.Omega.{arith}
 use borrow.Author.Tests.{eqb-true}
 use lib.Bits.{bit_or}
-use lib.Count.{ones}
 use lib.Dec.{T, eqb, leb→le, le→leb}
 use lib.IntN.{pos, neg_ℤ, nat_abs}
 use lib.ListN.{length, get_or, get_or-map}
@@ -16,7 +15,6 @@ use mir.Facts.{yes_and}
 use Rattle.rules.specs.declared.units.Milliseconds.{Milliseconds}
 use Rattle.rules.specs.declared.units.Milliamperes.{Milliamperes}
 use Rattle.rules.specs.declared.sensors.Reading.{Reading}
-use Rattle.rules.specs.declared.states.TestResult.TheVariants.{Passed, Failed}
 use Rattle.rules.specs.declared.session.Watch.{Watch}
 use Rattle.rules.specs.Quantities.{mv, ma, dc, ◌≤mV◌, ◌≤mA◌, ◌≤dC◌, negated, charge_rating, discharge_rating}
 use Rattle.rules.specs.Test.{plausible, greatest_current, current_in_range, failed_mask, failed_count}
@@ -26,7 +24,7 @@ use Rattle.rules.proofs.Apart.{apart}
 use Rattle.rules.proofs.Bits.{bit_of_mask, bit_of_none, bit_of_all, none_of_or}
 use Rattle.rules.proofs.Bools.{and_true, is_true}
 use Rattle.rules.proofs.Order.{at_most_trans}
-use Rattle.step.specs.Track.{track_one, keeping, track_all, previous_by, observe}
+use Rattle.step.specs.Track.{track_one, keeping, track_all, observe}
 use Rattle.step.proofs.Keeping.{keeping_same}
 use Rattle.reading.proofs.Laws.{plausible_is}
 use Rattle.reading.proofs.Ranges.{plausible_by_extremes}

@@ -1,4 +1,6 @@
 // What a measurement makes of what is watched: test, failed sensors, spans and trips. It sees battery, time, reading and itself alone.
+#![tactic(auto)]
+
 ghost use Rattle.std.specs.Prelude.{◌≡◌, cond};
 ghost use Rattle.rules.specs.declared.states.TestResult.TheVariants.{Passed, Failed as TestFailed};
 ghost use Rattle.std.specs.Int.Count.{ones};

@@ -1,22 +1,26 @@
-// The program on file descriptors: it reads a log in parts and writes the lines that `lines` makes of each. A run that fails says so on
-// standard error and writes no last line, so that what it wrote never looks like a whole table.
+// The program on a reader and writers: it reads a log in parts and writes the lines that `lines` makes of each. A run that fails says so on
+// the writer for errors and writes no last line, so that what it wrote never looks like a whole table.
+#![tactic(auto)]
+
 mod parts;
 
 use decision::Why;
+use std::io::{Read, Write};
 
 // The input is a type byte and then events; the output is a line for each event and a last line.
-pub fn run(input: i32, output: i32) {
-    let mut bytes = io::large_buffer();
-    let got = transfer::read_some(input, &mut bytes);
-    if got < 0 {
-        parts::cannot_read();
-        return;
-    }
-    let have = io::count(got, &bytes);
+pub fn run<I: Read, O: Write, E: Write>(input: &mut I, output: &mut O, errors: &mut E) {
+    let mut bytes = [0u8; 65_536];
+    let have = match transfer::read_some(input, &mut bytes) {
+        Ok(got) => got,
+        Err(why) => {
+            parts::cannot_read(errors, why);
+            return;
+        }
+    };
     let opening = report::opening(&bytes[..have]);
     let progress = opening.progress;
     if (have == 0) | (opening.refusal != 0) {
-        parts::close(output, progress, Why::Refused(opening.refusal));
+        parts::close(output, errors, progress, Why::Refused(opening.refusal));
         return;
     }
     let start = parts::RunState {
@@ -26,6 +30,6 @@ pub fn run(input: i32, output: i32) {
         whole: true,
         done: false,
     };
-    let mut text = io::large_buffer();
-    parts::all(input, output, start, &mut bytes, &mut text);
+    let mut text = [0u8; 65_536];
+    parts::all(input, output, errors, start, &mut bytes, &mut text);
 }

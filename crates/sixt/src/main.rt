@@ -1,4 +1,6 @@
 // Reads a log on standard input and prints its table on standard output (document 01, "The program").
-fn main() {
-    console::run(libc::STDIN_FILENO, libc::STDOUT_FILENO);
+#![tactic(auto)]
+
+fn main(rt: HostRuntime) {
+    console::run(&mut rt.stdin(), &mut rt.stdout(), &mut rt.stderr());
 }

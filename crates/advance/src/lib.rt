@@ -1,4 +1,6 @@
 // What an accepted call makes of the live part of a record.
+#![tactic(auto)]
+
 ghost use Rattle.std.specs.Prelude.{◌≡◌, ◌≤◌};
 ghost use Rattle.rules.specs.Quantities.{mission_time};
 ghost use Rattle.rules.specs.Soundness.{account_limit};

@@ -6,6 +6,7 @@ use native.Mathlib.Omega.{arith}
 use lib.ListN.{length, take, drop, length-drop, drop_of_length-le}
 use lib.Seq.{take_at, drop-drop, take-append-add, drop-append_seam}
 use denote.Ref.{Bor}
+use denote.MutBor.{MutBor}
 use Rattle.rules.proofs.ByteLaws.{read_end}
 use Rattle.rules.specs.Bytes.{written_or, buffer_after}
 use Rattle.rules.specs.Numbers.{bytes, answer_of_write}
@@ -58,7 +59,7 @@ module _ (I : Items) where
     accepted zero n count due before after e f = ((cc), f)
     accepted (suc refusal) n count due before after e f = absurd (let z : ◌≡◌ {A = ℕ} 0 1 = cc in omega arith)
 
-    wrote_one : {x : I.Item} {before after : Bor (List ℕ)} {n : ℕ} → W.Allows x before (Bytes n) after
+    wrote_one : {x : I.Item} {before after : MutBor (List ℕ)} {n : ℕ} → W.Allows x before (Bytes n) after
         → (n ≡ length (item_bytes I x)) × (take n after.now ≡ item_bytes I x)
     wrote_one {x} {before} {after} {n} g =
         let right = W.right g in

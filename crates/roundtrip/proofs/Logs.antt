@@ -9,7 +9,7 @@ use lib.Dec.{eqb}
 use lib.IntN.{ℤ, pos, negsuc, nat_abs}
 use lib.ListN.{length, get_or, drop}
 use Rattle.rules.specs.Numbers.{command_number, request_number, override_number, command_of, request_of, override_of, unsigned, event_kind, event_values, event_of, ReadAnswer, found, end, ReadAnswer.refused}
-use Rattle.rules.specs.Bytes.{Field, u16, u32, i16, i32, one_of, AreBytes, is_in, is_below, is_kind, fields_of, event_forms, read_at, InField, InFields, InRange}
+use Rattle.rules.specs.Bytes.{Field, u16, u32, i16, i32, one_of, AreBytes, is_in, is_below, is_kind, fields_of, event_forms, read_at, InField, InFields}
 use Rattle.rules.specs.Logs.{read_on, read_by, read_log}
 use Rattle.rules.proofs.Lists.{tabulate_ext, tabulate_places}
 use Rattle.roundtrip.specs.Chains.{bytes_of, item_bytes, all_bytes}

@@ -1,7 +1,7 @@
 -- The round trips as statements, for any reader and writer of items that are a kind with values: what a chain of writes and a chain of
 -- reads are, through what the contracts allow, and what is claimed of them.
 use Rattle.std.specs.Prelude.{ℕ, ◌+◌, ◌-◌, ◌≤◌, List, [], ◌∷◌, ◌++◌, ◌≡◌, ℤ, length, take, drop}
-use Rattle.std.specs.Borrow.{Bor}
+use Rattle.std.specs.Borrow.{Bor, MutBor}
 use Rattle.rules.specs.Bytes.{Form, AreBytes, InRange, fields_of, fields_bytes, read_at, written_or, buffer_after}
 use Rattle.rules.specs.Numbers.{ReadAnswer, found, end, answer_of_write}
 use Rattle.rules.specs.declared.answers.Written.{Written}
@@ -38,11 +38,11 @@ pub record Writer (I : Items) : Type 1 where
   pub is_due_lem : (a : I.Item) → due a ≡ bytes_of I.forms (I.kind a) (I.values a)
   pub refusal : I.Item → List ℕ → ℕ
   pub fits : (a : I.Item) (buffer : List ℕ) → InRange I.forms (I.kind a) (I.values a) → length (due a) ≤ length buffer → refusal a buffer ≡ 0
-  pub Allows : I.Item → Bor (List ℕ) → Written → Bor (List ℕ) → Type 0
-  pub right : {a : I.Item} {before after : Bor (List ℕ)} {r : Written} → Allows a before r after
+  pub Allows : I.Item → MutBor (List ℕ) → Written → MutBor (List ℕ) → Type 0
+  pub right : {a : I.Item} {before after : MutBor (List ℕ)} {r : Written} → Allows a before r after
       → (answer_of_write r ≡ written_or (refusal a before.now) (length (due a)))
       × (after.now ≡ buffer_after (refusal a before.now) (due a) before.now)
-  pub ranged : {a : I.Item} {before after : Bor (List ℕ)} {n : ℕ} → Allows a before (Bytes n) after → InRange I.forms (I.kind a) (I.values a)
+  pub ranged : {a : I.Item} {before after : MutBor (List ℕ)} {n : ℕ} → Allows a before (Bytes n) after → InRange I.forms (I.kind a) (I.values a)
 
 module _ (I : Items) where
   abbrev pub item_bytes : I.Item → List ℕ
@@ -83,7 +83,7 @@ module _ (I : Items) where
     -- items that the writer put one after the other: with the buffer before and after, and how many bytes they took
     pub data Wrote : List I.Item → List ℕ → List ℕ → ℕ → Type 0 where
       none : {buffer : List ℕ} → Wrote [] buffer buffer 0
-      one : {x : I.Item} {xs : List I.Item} {before after : Bor (List ℕ)} {n used : ℕ} {rest : List ℕ}
+      one : {x : I.Item} {xs : List I.Item} {before after : MutBor (List ℕ)} {n used : ℕ} {rest : List ℕ}
           → W.Allows x before (Bytes n) after → Wrote xs (drop n after.now) rest used
           → Wrote (x ∷ xs) before.now (take n after.now ++ rest) (n + used)
 
@@ -93,7 +93,7 @@ module _ (I : Items) where
     pub record WrittenAgain (log : List ℕ) (at : ℕ) (x : I.Item) (next : ℕ) : Type 0 where
       pub range : InRange I.forms (I.kind x) (I.values x)
       pub bytes : W.due x ≡ take (next - at) (drop at log)
-      pub written : {before after : Bor (List ℕ)} {r : Written} → W.Allows x before r after → next - at ≤ length before.now
+      pub written : {before after : MutBor (List ℕ)} {r : Written} → W.Allows x before r after → next - at ≤ length before.now
           → (r ≡ Bytes (next - at)) × (after.now ≡ take (next - at) (drop at log) ++ drop (next - at) before.now)
 
     -- A log that reads to "end" is exactly the bytes of what was read, all of it in range, and is what writing it gives.

@@ -2,234 +2,246 @@
 // A case on standard input is four bytes (which, position, room, length) and then `length` bytes: which is 0 for the event reader, 1 for
 // the entry reader, each followed by a writer into a buffer of `room` bytes if something was found; 2 and 3 write a trip and a release
 // whose protection number is the first of the bytes.
+#![tactic(auto)]
+
 use rules::answers::{ReadEntry, ReadEvent, Written};
 use rules::calls::{Command, Event, Request};
 use rules::sensors::Reading;
 use rules::stores::Entry;
 use rules::units::Milliseconds;
+use std::io;
+use std::io::Write;
 use testing::table::Next;
-use testing::{print, slice, table};
+use testing::{files, print, slice, table};
 
 // A value stands after a space.
-fn value(n: u64) {
-    print::text(b" ");
-    print::decimal(n);
+fn value<W: Write>(out: &mut W, n: u64) -> io::Result<()> {
+    print::text(out, b" ")?;
+    print::decimal(out, n)
 }
 
-fn signed(z: i32) {
-    print::text(b" ");
-    print::signed(z);
+fn signed<W: Write>(out: &mut W, z: i32) -> io::Result<()> {
+    print::text(out, b" ")?;
+    print::signed(out, z)
 }
 
-fn signed16(z: i16) {
-    print::text(b" ");
-    print::signed16(z);
+fn signed16<W: Write>(out: &mut W, z: i16) -> io::Result<()> {
+    print::text(out, b" ")?;
+    print::signed16(out, z)
 }
 
-fn print_cells(r: Reading) {
-    value(r.cell0.0 as u64);
-    value(r.cell1.0 as u64);
-    value(r.cell2.0 as u64);
-    value(r.cell3.0 as u64);
-    value(r.cell4.0 as u64);
-    value(r.cell5.0 as u64);
-    value(r.cell6.0 as u64);
-    value(r.cell7.0 as u64);
+fn print_cells<W: Write>(out: &mut W, r: Reading) -> io::Result<()> {
+    value(out, r.cell0.0 as u64)?;
+    value(out, r.cell1.0 as u64)?;
+    value(out, r.cell2.0 as u64)?;
+    value(out, r.cell3.0 as u64)?;
+    value(out, r.cell4.0 as u64)?;
+    value(out, r.cell5.0 as u64)?;
+    value(out, r.cell6.0 as u64)?;
+    value(out, r.cell7.0 as u64)
 }
 
-fn print_temperatures(r: Reading) {
-    signed16(r.temperature0.0);
-    signed16(r.temperature1.0);
-    signed16(r.temperature2.0);
-    signed16(r.temperature3.0);
+fn print_temperatures<W: Write>(out: &mut W, r: Reading) -> io::Result<()> {
+    signed16(out, r.temperature0.0)?;
+    signed16(out, r.temperature1.0)?;
+    signed16(out, r.temperature2.0)?;
+    signed16(out, r.temperature3.0)
 }
 
-fn print_reading(r: Reading) {
-    print_cells(r);
-    signed(r.current.0);
-    print_temperatures(r);
+fn print_reading<W: Write>(out: &mut W, r: Reading) -> io::Result<()> {
+    print_cells(out, r)?;
+    signed(out, r.current.0)?;
+    print_temperatures(out, r)
 }
 
-fn print_command(c: Command) {
+fn print_command<W: Write>(out: &mut W, c: Command) -> io::Result<()> {
     match c {
-        Command::Automated => print::text(b" automated"),
-        Command::Open => print::text(b" open"),
-        Command::ForceClosed => print::text(b" force-closed"),
+        Command::Automated => print::text(out, b" automated")?,
+        Command::Open => print::text(out, b" open")?,
+        Command::ForceClosed => print::text(out, b" force-closed")?,
     }
+    Ok(())
 }
 
-fn print_request(q: Request) {
+fn print_request<W: Write>(out: &mut W, q: Request) -> io::Result<()> {
     match q {
-        Request::Dormant => print::text(b" dormant"),
-        Request::Operational => print::text(b" operational"),
-        Request::Maintenance => print::text(b" maintenance"),
+        Request::Dormant => print::text(out, b" dormant")?,
+        Request::Operational => print::text(out, b" operational")?,
+        Request::Maintenance => print::text(out, b" maintenance")?,
     }
+    Ok(())
 }
 
-fn print_event(e: Event) {
+fn print_event<W: Write>(out: &mut W, e: Event) -> io::Result<()> {
     match e {
         Event::Measurement(t, r) => {
-            print::text(b"measurement");
-            value(t.0 as u64);
-            print_reading(r);
+            print::text(out, b"measurement")?;
+            value(out, t.0 as u64)?;
+            print_reading(out, r)?;
         }
         Event::PowerOn(t) => {
-            print::text(b"power-on");
-            value(t.0 as u64);
+            print::text(out, b"power-on")?;
+            value(out, t.0 as u64)?;
         }
         Event::PowerLoss(t) => {
-            print::text(b"power-loss");
-            value(t.0 as u64);
+            print::text(out, b"power-loss")?;
+            value(out, t.0 as u64)?;
         }
         Event::ContactorCommand(t, c) => {
-            print::text(b"command");
-            value(t.0 as u64);
-            print_command(c);
+            print::text(out, b"command")?;
+            value(out, t.0 as u64)?;
+            print_command(out, c)?;
         }
         Event::StateRequest(t, q) => {
-            print::text(b"request");
-            value(t.0 as u64);
-            print_request(q);
+            print::text(out, b"request")?;
+            value(out, t.0 as u64)?;
+            print_request(out, q)?;
         }
         Event::BattleOverride(t, on) => {
-            print::text(b"override");
-            value(t.0 as u64);
+            print::text(out, b"override")?;
+            value(out, t.0 as u64)?;
             if on {
-                print::text(b" on");
+                print::text(out, b" on")?;
             } else {
-                print::text(b" off");
+                print::text(out, b" off")?;
             }
         }
         Event::ClearLongTerm(t) => {
-            print::text(b"clear");
-            value(t.0 as u64);
+            print::text(out, b"clear")?;
+            value(out, t.0 as u64)?;
         }
     }
+    Ok(())
 }
 
-fn print_entry(e: Entry) {
+fn print_entry<W: Write>(out: &mut W, e: Entry) -> io::Result<()> {
     match e {
         Entry::Trip(t, p, v) => {
-            print::text(b"trip");
-            value(t.0 as u64);
-            value(p as u64);
-            signed(v);
+            print::text(out, b"trip")?;
+            value(out, t.0 as u64)?;
+            value(out, p as u64)?;
+            signed(out, v)?;
         }
         Entry::Release(t, p) => {
-            print::text(b"release");
-            value(t.0 as u64);
-            value(p as u64);
+            print::text(out, b"release")?;
+            value(out, t.0 as u64)?;
+            value(out, p as u64)?;
         }
     }
+    Ok(())
 }
 
-fn print_refused(refusal: u8) {
-    print::text(b"refused");
-    value(refusal as u64);
+fn print_refused<W: Write>(out: &mut W, refusal: u8) -> io::Result<()> {
+    print::text(out, b"refused")?;
+    value(out, refusal as u64)
 }
 
 // What a writer answers, and its buffer after it.
-fn print_written(w: Written, buffer: &[u8]) {
+fn print_written<W: Write>(out: &mut W, w: Written, buffer: &[u8]) -> io::Result<()> {
     match w {
         Written::Bytes(n) => {
-            print::text(b", written");
-            value(n as u64);
+            print::text(out, b", written")?;
+            value(out, n as u64)?;
         }
         Written::Refused(refusal) => {
-            print::text(b", ");
-            print_refused(refusal);
+            print::text(out, b", ")?;
+            print_refused(out, refusal)?;
         }
     }
-    print::text(b" ");
-    print::hex(buffer);
+    print::text(out, b" ")?;
+    print::hex(out, buffer)
 }
 
-fn event_into(e: Event, buffer: &mut [u8]) {
-    print_written(event_writer::write_event(e, buffer), buffer);
+fn event_into<W: Write>(out: &mut W, e: Event, buffer: &mut [u8]) -> io::Result<()> {
+    print_written(out, event_writer::write_event(e, buffer), buffer)
 }
 
-fn entry_into(e: Entry, buffer: &mut [u8]) {
-    print_written(entry_writer::write_entry(e, buffer), buffer);
+fn entry_into<W: Write>(out: &mut W, e: Entry, buffer: &mut [u8]) -> io::Result<()> {
+    print_written(out, entry_writer::write_entry(e, buffer), buffer)
 }
 
-fn event_case(s: &[u8], position: usize, buffer: &mut [u8]) {
+fn event_case<W: Write>(out: &mut W, s: &[u8], position: usize, buffer: &mut [u8]) -> io::Result<()> {
     match event_reader::read_event(s, position) {
         ReadEvent::Found(e, next) => {
-            print_event(e);
-            print::text(b", next");
-            value(next as u64);
-            event_into(e, buffer);
+            print_event(out, e)?;
+            print::text(out, b", next")?;
+            value(out, next as u64)?;
+            event_into(out, e, buffer)?;
         }
-        ReadEvent::End => print::text(b"end"),
+        ReadEvent::End => print::text(out, b"end")?,
         ReadEvent::Refused(refusal, at) => {
-            print_refused(refusal);
-            value(at as u64);
+            print_refused(out, refusal)?;
+            value(out, at as u64)?;
         }
     }
+    Ok(())
 }
 
-fn entry_case(s: &[u8], position: usize, buffer: &mut [u8]) {
+fn entry_case<W: Write>(out: &mut W, s: &[u8], position: usize, buffer: &mut [u8]) -> io::Result<()> {
     match entry_reader::read_entry(s, position) {
         ReadEntry::Found(e, next) => {
-            print_entry(e);
-            print::text(b", next");
-            value(next as u64);
-            entry_into(e, buffer);
+            print_entry(out, e)?;
+            print::text(out, b", next")?;
+            value(out, next as u64)?;
+            entry_into(out, e, buffer)?;
         }
-        ReadEntry::End => print::text(b"end"),
+        ReadEntry::End => print::text(out, b"end")?,
         ReadEntry::Refused(refusal, at) => {
-            print_refused(refusal);
-            value(at as u64);
+            print_refused(out, refusal)?;
+            value(out, at as u64)?;
         }
     }
+    Ok(())
 }
 
-fn write_case(e: Entry, buffer: &mut [u8]) {
-    print_entry(e);
-    entry_into(e, buffer);
+fn write_case<W: Write>(out: &mut W, e: Entry, buffer: &mut [u8]) -> io::Result<()> {
+    print_entry(out, e)?;
+    entry_into(out, e, buffer)
 }
 
-fn case(which: u8, position: usize, s: &[u8], buffer: &mut [u8]) {
+fn case<W: Write>(out: &mut W, which: u8, position: usize, s: &[u8], buffer: &mut [u8]) -> io::Result<()> {
     let p = word_reader::byte_at(s, 0);
     match which {
-        0 => event_case(s, position, buffer),
-        1 => entry_case(s, position, buffer),
-        2 => write_case(Entry::Trip(Milliseconds(1), p, -2), buffer),
-        _ => write_case(Entry::Release(Milliseconds(1), p), buffer),
+        0 => event_case(out, s, position, buffer)?,
+        1 => entry_case(out, s, position, buffer)?,
+        2 => write_case(out, Entry::Trip(Milliseconds(1), p, -2), buffer)?,
+        _ => write_case(out, Entry::Release(Milliseconds(1), p), buffer)?,
     }
+    Ok(())
 }
 
 // A buffer's bytes are hex ee before the write.
-fn case_by(head: &[u8], s: &[u8]) {
+fn case_by<W: Write>(out: &mut W, head: &[u8], s: &[u8]) -> io::Result<()> {
     let mut buffer = [0xeeu8; 64];
     let room = slice::byte(head, 2);
     if room <= 64 {
-        case(
+        case(out, 
             word_reader::byte_at(head, 0),
             slice::byte(head, 1),
             s,
             &mut buffer[..room],
-        );
+        )?;
     }
-    print::text(b"\n");
+    print::text(out, b"\n")
 }
 
-fn cases(table: &[u8]) {
+fn cases<W: Write>(out: &mut W, table: &[u8]) -> io::Result<()> {
     let mut at: usize = 0;
     while at < table.len() {
         let Next::Case(start, end) = table::case_at(table, at, 4) else {
-            return;
+            return Ok(());
         };
-        case_by(
+        case_by(out, 
             slice::part(table, at, start),
             slice::part(table, start, end),
-        );
+        )?;
         at = end;
     }
+    Ok(())
 }
 
-fn main() {
-    let mut input = io::large_buffer();
-    let n = io::read_full(libc::STDIN_FILENO, &mut input);
-    cases(&input[..n]);
+fn main(rt: HostRuntime) -> io::Result<()> {
+    let mut input = [0u8; 65_536];
+    let n = files::read_full(&mut rt.stdin(), &mut input);
+    cases(&mut rt.stdout(), &input[..n])
 }

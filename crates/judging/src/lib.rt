@@ -1,5 +1,7 @@
 // The first part of a call: whether it is refused, what it makes of the live part, and whether the stores change, which are then written by
 // themselves. Soundness is in two parts too, so that a loop may test once what no call changes.
+#![tactic(auto)]
+
 ghost use Rattle.std.specs.Prelude.{◌≡◌};
 ghost use Rattle.step.specs.Refusal.{refusal_tested};
 ghost use Rattle.step.specs.Sound.{sound_rest};

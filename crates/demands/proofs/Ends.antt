@@ -7,41 +7,64 @@ use mir.Val.{Val}
 use prog.Memory.{Memory}
 use prog.Machine.{done}
 use prog.Model.{Model}
-use prog.Routine.{Routine, anyName}
+use prog.Routine.{Routine, Callee, step}
+use prog.Wired.{Code, Wired}
 use contract.Adequate.{Satisfies}
 use types.Logic.{Logic}
 use contract.Lifetimes.{Lfts}
 use contract.Monad.{Fun}
-use contract.Running.{Running, alone}
+use contract.Running.{Running, strict, tables}
 use denote.Signature.{Signature}
 use denote.Triple.Adequate.{adequate}
 use denote.Triple.Entry.{Args}
 use denote.Triple.Spec.{Spec, triple_of, Meets}
-use Rattle.engine.proofs.fresh as run-fresh
-use Rattle.engine.proofs.apply as run-apply
-use Rattle.judging.proofs.rest_sound as run-rest-sound
-use Rattle.judging.proofs.judge_tested as run-judge-tested
-use Rattle.judging.proofs.judge as run-judge
-use Rattle.engine.proofs.write_stores as run-write-stores
-use Rattle.engine.proofs.sound as run_sound
-use Rattle.engine.proofs.contactor as run-contactor
-use Rattle.event_reader.proofs.read_event as run-read-event
-use Rattle.entry_reader.proofs.read_entry as run-read-entry
-use Rattle.event_writer.proofs.write_event as run-write-event
-use Rattle.entry_writer.proofs.write_entry as run-write-entry
-use Rattle.export.proofs.export_long as run-export-long
-use Rattle.export.proofs.export_short as run-export-short
-use Rattle.reader.proofs.starting_at as run-starting-at
-use Rattle.reader.proofs.peek as run-peek
-use Rattle.reader.proofs.next as run-next
-use Rattle.reader.proofs.rest as run-rest
-use Rattle.log.proofs.event_at as run-event-at
-use Rattle.block.proofs.apply_block as run-apply-block
+use Rattle.engine.proofs.fresh as fresh_proof
+use Rattle.engine.specs.contracts.fresh as fresh_contract
+use Rattle.engine.proofs.apply as apply_proof
+use Rattle.engine.specs.contracts.apply as apply_contract
+use Rattle.judging.proofs.rest_sound as rest_sound_proof
+use Rattle.judging.specs.contracts.rest_sound as rest_sound_contract
+use Rattle.judging.proofs.judge_tested as judge_tested_proof
+use Rattle.judging.specs.contracts.judge_tested as judge_tested_contract
+use Rattle.judging.proofs.judge as judge_proof
+use Rattle.judging.specs.contracts.judge as judge_contract
+use Rattle.engine.proofs.write_stores as write_stores_proof
+use Rattle.engine.specs.contracts.write_stores as write_stores_contract
+use Rattle.engine.proofs.sound as sound_proof
+use Rattle.engine.specs.contracts.sound as sound_contract
+use Rattle.engine.proofs.contactor as contactor_proof
+use Rattle.engine.specs.contracts.contactor as contactor_contract
+use Rattle.event_reader.proofs.read_event as read_event_proof
+use Rattle.event_reader.specs.contracts.read_event as read_event_contract
+use Rattle.entry_reader.proofs.read_entry as read_entry_proof
+use Rattle.entry_reader.specs.contracts.read_entry as read_entry_contract
+use Rattle.event_writer.proofs.write_event as write_event_proof
+use Rattle.event_writer.specs.contracts.write_event as write_event_contract
+use Rattle.entry_writer.proofs.write_entry as write_entry_proof
+use Rattle.entry_writer.specs.contracts.write_entry as write_entry_contract
+use Rattle.export.proofs.export_long as export_long_proof
+use Rattle.export.specs.contracts.export_long as export_long_contract
+use Rattle.export.proofs.export_short as export_short_proof
+use Rattle.export.specs.contracts.export_short as export_short_contract
+use Rattle.reader.proofs.starting_at as reader_starting_at_proof
+use Rattle.reader.specs.contracts.starting_at as reader_starting_at_contract
+use Rattle.reader.proofs.peek as reader_peek_proof
+use Rattle.reader.specs.contracts.peek as reader_peek_contract
+use Rattle.reader.proofs.next as reader_next_proof
+use Rattle.reader.specs.contracts.next as reader_next_contract
+use Rattle.reader.proofs.rest as reader_rest_proof
+use Rattle.reader.specs.contracts.rest as reader_rest_contract
+use Rattle.event_log.proofs.event_at as event_at_proof
+use Rattle.event_log.specs.contracts.event_at as event_at_contract
+use Rattle.block.proofs.apply_block as apply_block_proof
+use Rattle.block.specs.contracts.apply_block as apply_block_contract
 
+-- A function: its signature, the name that calls have for it, its code with the code of all that it calls, and its contract.
 module _
     (M : Type 1)
     (S : Signature)
-    (routine : Routine)
+    (name : Callee)
+    (code : Code)
     (spec : (𝓤 : Ura M) (𝓛 : Logic 𝓤) → (Memory → SProp 𝓤) → (Routine → Fun 𝓤) → Spec 𝓤 S) where
   -- A caller brings nothing but arguments of their types: the contract asks for no fact and no ghost value besides.
   abbrev pub AsksNothing : Type 2
@@ -50,20 +73,22 @@ module _
 
   abbrev Stated : Type 2
   Stated = (𝓤 : Ura M) (𝓛 : Logic 𝓤) (𝓜 : Model 𝓤 𝓛.H) (𝓡 : Running 𝓤 𝓛.H 𝓜)
-      → Meets 𝓛 S (𝓡.run routine) (spec 𝓤 𝓛 𝓜.mem 𝓡.run)
+      → Wired 𝓡.env code → Meets 𝓛 S (𝓡.run (𝓡.env name)) (spec 𝓤 𝓛 𝓜.mem 𝓡.returns)
 
-  -- In every model of the machine, from every memory that holds the arguments as values of their types, beside anything else, the routine is
-  -- done after some number of steps, without a trap. The value that it returns is one that the contract allows, in a memory where the rest is
-  -- as it was.
+  -- In every model of the machine, in every environment that has the function's code, from every memory that holds the arguments as values of
+  -- their types, beside anything else, the routine that the function's name means there is done after some number of steps, without a trap. The
+  -- value that it returns is one that the contract allows, in a memory where the rest is as it was.
   abbrev pub Ends : Type 2
-  Ends = (𝓤 : Ura M) (𝓛 : Logic 𝓤) (𝓜 : Model 𝓤 𝓛.H) (𝓡 : Running 𝓤 𝓛.H 𝓜)
-      → let c = triple_of 𝓛 S (spec 𝓤 𝓛 𝓜.mem 𝓡.run) in
+  Ends = (𝓤 : Ura M) (𝓛 : Logic 𝓤) (𝓜 : Model 𝓤 𝓛.H) (𝓡 : Running 𝓤 𝓛.H 𝓜) → Wired 𝓡.env code
+      → let c = triple_of 𝓛 S (spec 𝓤 𝓛 𝓜.mem 𝓡.returns) in
       (x : c.Ghost) (before : Memory) (rest : SProp 𝓤) → Satisfies 𝓤 𝓛.H 𝓜 before (sep 𝓤 (c.pre x) rest)
-      → ∥ ((steps : ℕ) × (v : Val) × (after : Memory) × (routine.step steps (c.args x) before ≡ done (v, after)) × Satisfies 𝓤 𝓛.H 𝓜 after (sep 𝓤 (c.post x v) rest)) ∥₁
+      → ∥ ((steps : ℕ) × (v : Val) × (after : Memory) × (step (𝓡.env name) steps (c.args x) before ≡ done (v, after)) × Satisfies 𝓤 𝓛.H 𝓜 after (sep 𝓤 (c.post x v) rest)) ∥₁
 
   ends_by : Stated → Ends
-  unfolding alone
-  ends_by met 𝓤 𝓛 𝓜 𝓡 = adequate 𝓤 𝓛.H 𝓜 (alone 𝓤 𝓛.H 𝓜 𝓡 routine) anyName (triple_of 𝓛 S (spec 𝓤 𝓛 𝓜.mem 𝓡.run)) (met 𝓤 𝓛 𝓜 𝓡)
+  ends_by met 𝓤 𝓛 𝓜 𝓡 wired =
+      let alone = strict 𝓤 𝓛.H 𝓜 𝓡 in
+      adequate 𝓤 𝓛.H 𝓜 (tables 𝓤 𝓛.H 𝓜 alone 𝓡.env) (λ status none. none, tt) name (triple_of 𝓛 S (spec 𝓤 𝓛 𝓜.mem 𝓡.returns))
+      (met 𝓤 𝓛 𝓜 alone wired)
 
   pub record EndsOnAll : Type 2 where
     pub asks_nothing : AsksNothing
@@ -74,48 +99,48 @@ module _
 
 -- each function that demand 1 covers
 pub record EveryCallEnds (M : Type 1) : Type 2 where
-  pub fresh : EndsOnAll M run-fresh.signature run-fresh.Symbol.routine run-fresh.spec
-  pub apply : EndsOnAll M run-apply.signature run-apply.Symbol.routine run-apply.spec
-  pub rest_sound : EndsOnAll M run-rest-sound.signature run-rest-sound.Symbol.routine run-rest-sound.spec
-  pub judge_tested : EndsOnAll M run-judge-tested.signature run-judge-tested.Symbol.routine run-judge-tested.spec
-  pub judge : EndsOnAll M run-judge.signature run-judge.Symbol.routine run-judge.spec
-  pub write_stores : EndsOnAll M run-write-stores.signature run-write-stores.Symbol.routine run-write-stores.spec
-  pub sound : EndsOnAll M run_sound.signature run_sound.Symbol.routine run_sound.spec
-  pub contactor : EndsOnAll M run-contactor.signature run-contactor.Symbol.routine run-contactor.spec
-  pub read_event : EndsOnAll M run-read-event.signature run-read-event.Symbol.routine run-read-event.spec
-  pub read_entry : EndsOnAll M run-read-entry.signature run-read-entry.Symbol.routine run-read-entry.spec
-  pub write_event : EndsOnAll M run-write-event.signature run-write-event.Symbol.routine run-write-event.spec
-  pub write_entry : EndsOnAll M run-write-entry.signature run-write-entry.Symbol.routine run-write-entry.spec
-  pub export_long : EndsOnAll M run-export-long.signature run-export-long.Symbol.routine run-export-long.spec
-  pub export_short : EndsOnAll M run-export-short.signature run-export-short.Symbol.routine run-export-short.spec
-  pub reader_starting_at : EndsOnAll M run-starting-at.signature run-starting-at.Symbol.routine run-starting-at.spec
-  pub reader_peek : EndsOnAll M run-peek.signature run-peek.Symbol.routine run-peek.spec
-  pub reader_next : EndsOnAll M run-next.signature run-next.Symbol.routine run-next.spec
-  pub reader_rest : EndsOnAll M run-rest.signature run-rest.Symbol.routine run-rest.spec
-  pub event_at : EndsOnAll M run-event-at.signature run-event-at.Symbol.routine run-event-at.spec
-  pub apply_block : EndsOnAll M run-apply-block.signature run-apply-block.Symbol.routine run-apply-block.spec
+  pub fresh : EndsOnAll M fresh_contract.signature fresh_proof.Symbol.name fresh_proof.Symbol.code (λ 𝓤 𝓛. fresh_contract.spec 𝓛)
+  pub apply : EndsOnAll M apply_contract.signature apply_proof.Symbol.name apply_proof.Symbol.code (λ 𝓤 𝓛. apply_contract.spec 𝓛)
+  pub rest_sound : EndsOnAll M rest_sound_contract.signature rest_sound_proof.Symbol.name rest_sound_proof.Symbol.code (λ 𝓤 𝓛. rest_sound_contract.spec 𝓛)
+  pub judge_tested : EndsOnAll M judge_tested_contract.signature judge_tested_proof.Symbol.name judge_tested_proof.Symbol.code (λ 𝓤 𝓛. judge_tested_contract.spec 𝓛)
+  pub judge : EndsOnAll M judge_contract.signature judge_proof.Symbol.name judge_proof.Symbol.code (λ 𝓤 𝓛. judge_contract.spec 𝓛)
+  pub write_stores : EndsOnAll M write_stores_contract.signature write_stores_proof.Symbol.name write_stores_proof.Symbol.code (λ 𝓤 𝓛. write_stores_contract.spec 𝓛)
+  pub sound : EndsOnAll M sound_contract.signature sound_proof.Symbol.name sound_proof.Symbol.code (λ 𝓤 𝓛. sound_contract.spec 𝓛)
+  pub contactor : EndsOnAll M contactor_contract.signature contactor_proof.Symbol.name contactor_proof.Symbol.code (λ 𝓤 𝓛. contactor_contract.spec 𝓛)
+  pub read_event : EndsOnAll M read_event_contract.signature read_event_proof.Symbol.name read_event_proof.Symbol.code (λ 𝓤 𝓛. read_event_contract.spec 𝓛)
+  pub read_entry : EndsOnAll M read_entry_contract.signature read_entry_proof.Symbol.name read_entry_proof.Symbol.code (λ 𝓤 𝓛. read_entry_contract.spec 𝓛)
+  pub write_event : EndsOnAll M write_event_contract.signature write_event_proof.Symbol.name write_event_proof.Symbol.code (λ 𝓤 𝓛. write_event_contract.spec 𝓛)
+  pub write_entry : EndsOnAll M write_entry_contract.signature write_entry_proof.Symbol.name write_entry_proof.Symbol.code (λ 𝓤 𝓛. write_entry_contract.spec 𝓛)
+  pub export_long : EndsOnAll M export_long_contract.signature export_long_proof.Symbol.name export_long_proof.Symbol.code (λ 𝓤 𝓛. export_long_contract.spec 𝓛)
+  pub export_short : EndsOnAll M export_short_contract.signature export_short_proof.Symbol.name export_short_proof.Symbol.code (λ 𝓤 𝓛. export_short_contract.spec 𝓛)
+  pub reader_starting_at : EndsOnAll M reader_starting_at_contract.signature reader_starting_at_proof.Symbol.name reader_starting_at_proof.Symbol.code (λ 𝓤 𝓛. reader_starting_at_contract.spec 𝓛)
+  pub reader_peek : EndsOnAll M reader_peek_contract.signature reader_peek_proof.Symbol.name reader_peek_proof.Symbol.code (λ 𝓤 𝓛. reader_peek_contract.spec 𝓛)
+  pub reader_next : EndsOnAll M reader_next_contract.signature reader_next_proof.Symbol.name reader_next_proof.Symbol.code (λ 𝓤 𝓛. reader_next_contract.spec 𝓛)
+  pub reader_rest : EndsOnAll M reader_rest_contract.signature reader_rest_proof.Symbol.name reader_rest_proof.Symbol.code (λ 𝓤 𝓛. reader_rest_contract.spec 𝓛)
+  pub event_at : EndsOnAll M event_at_contract.signature event_at_proof.Symbol.name event_at_proof.Symbol.code (λ 𝓤 𝓛. event_at_contract.spec 𝓛)
+  pub apply_block : EndsOnAll M apply_block_contract.signature apply_block_proof.Symbol.name apply_block_proof.Symbol.code (λ 𝓤 𝓛. apply_block_contract.spec 𝓛)
 
 -- by what its contract asks, and by its own theorem
 pub each_ends : (M : Type 1) → EveryCallEnds M
 each_ends M = record {
-  fresh = ends_on_all M run-fresh.signature run-fresh.Symbol.routine run-fresh.spec (λ 𝓛 mem run κs args. (tt, refl)) run-fresh.Met.met;
-  apply = ends_on_all M run-apply.signature run-apply.Symbol.routine run-apply.spec (λ 𝓛 mem run κs args. (tt, refl)) run-apply.Met.met;
-  rest_sound = ends_on_all M run-rest-sound.signature run-rest-sound.Symbol.routine run-rest-sound.spec (λ 𝓛 mem run κs args. (tt, refl)) run-rest-sound.Met.met;
-  judge_tested = ends_on_all M run-judge-tested.signature run-judge-tested.Symbol.routine run-judge-tested.spec (λ 𝓛 mem run κs args. (tt, refl)) run-judge-tested.Met.met;
-  judge = ends_on_all M run-judge.signature run-judge.Symbol.routine run-judge.spec (λ 𝓛 mem run κs args. (tt, refl)) run-judge.Met.met;
-  write_stores = ends_on_all M run-write-stores.signature run-write-stores.Symbol.routine run-write-stores.spec (λ 𝓛 mem run κs args. (tt, refl)) run-write-stores.Met.met;
-  sound = ends_on_all M run_sound.signature run_sound.Symbol.routine run_sound.spec (λ 𝓛 mem run κs args. (tt, refl)) run_sound.Met.met;
-  contactor = ends_on_all M run-contactor.signature run-contactor.Symbol.routine run-contactor.spec (λ 𝓛 mem run κs args. (tt, refl)) run-contactor.Met.met;
-  read_event = ends_on_all M run-read-event.signature run-read-event.Symbol.routine run-read-event.spec (λ 𝓛 mem run κs args. (tt, refl)) run-read-event.Met.met;
-  read_entry = ends_on_all M run-read-entry.signature run-read-entry.Symbol.routine run-read-entry.spec (λ 𝓛 mem run κs args. (tt, refl)) run-read-entry.Met.met;
-  write_event = ends_on_all M run-write-event.signature run-write-event.Symbol.routine run-write-event.spec (λ 𝓛 mem run κs args. (tt, refl)) run-write-event.Met.met;
-  write_entry = ends_on_all M run-write-entry.signature run-write-entry.Symbol.routine run-write-entry.spec (λ 𝓛 mem run κs args. (tt, refl)) run-write-entry.Met.met;
-  export_long = ends_on_all M run-export-long.signature run-export-long.Symbol.routine run-export-long.spec (λ 𝓛 mem run κs args. (tt, refl)) run-export-long.Met.met;
-  export_short = ends_on_all M run-export-short.signature run-export-short.Symbol.routine run-export-short.spec (λ 𝓛 mem run κs args. (tt, refl)) run-export-short.Met.met;
-  reader_starting_at = ends_on_all M run-starting-at.signature run-starting-at.Symbol.routine run-starting-at.spec (λ 𝓛 mem run κs args. (tt, refl)) run-starting-at.Met.met;
-  reader_peek = ends_on_all M run-peek.signature run-peek.Symbol.routine run-peek.spec (λ 𝓛 mem run κs args. (tt, refl)) run-peek.Met.met;
-  reader_next = ends_on_all M run-next.signature run-next.Symbol.routine run-next.spec (λ 𝓛 mem run κs args. (tt, refl)) run-next.Met.met;
-  reader_rest = ends_on_all M run-rest.signature run-rest.Symbol.routine run-rest.spec (λ 𝓛 mem run κs args. (tt, refl)) run-rest.Met.met;
-  event_at = ends_on_all M run-event-at.signature run-event-at.Symbol.routine run-event-at.spec (λ 𝓛 mem run κs args. (tt, refl)) run-event-at.Met.met;
-  apply_block = ends_on_all M run-apply-block.signature run-apply-block.Symbol.routine run-apply-block.spec (λ 𝓛 mem run κs args. (tt, refl)) run-apply-block.Met.met;
+  fresh = ends_on_all M fresh_contract.signature fresh_proof.Symbol.name fresh_proof.Symbol.code (λ 𝓤 𝓛. fresh_contract.spec 𝓛) (λ 𝓤 𝓛 mem run κs args. (tt, refl)) fresh_proof.Met.met;
+  apply = ends_on_all M apply_contract.signature apply_proof.Symbol.name apply_proof.Symbol.code (λ 𝓤 𝓛. apply_contract.spec 𝓛) (λ 𝓤 𝓛 mem run κs args. (tt, refl)) apply_proof.Met.met;
+  rest_sound = ends_on_all M rest_sound_contract.signature rest_sound_proof.Symbol.name rest_sound_proof.Symbol.code (λ 𝓤 𝓛. rest_sound_contract.spec 𝓛) (λ 𝓤 𝓛 mem run κs args. (tt, refl)) rest_sound_proof.Met.met;
+  judge_tested = ends_on_all M judge_tested_contract.signature judge_tested_proof.Symbol.name judge_tested_proof.Symbol.code (λ 𝓤 𝓛. judge_tested_contract.spec 𝓛) (λ 𝓤 𝓛 mem run κs args. (tt, refl)) judge_tested_proof.Met.met;
+  judge = ends_on_all M judge_contract.signature judge_proof.Symbol.name judge_proof.Symbol.code (λ 𝓤 𝓛. judge_contract.spec 𝓛) (λ 𝓤 𝓛 mem run κs args. (tt, refl)) judge_proof.Met.met;
+  write_stores = ends_on_all M write_stores_contract.signature write_stores_proof.Symbol.name write_stores_proof.Symbol.code (λ 𝓤 𝓛. write_stores_contract.spec 𝓛) (λ 𝓤 𝓛 mem run κs args. (tt, refl)) write_stores_proof.Met.met;
+  sound = ends_on_all M sound_contract.signature sound_proof.Symbol.name sound_proof.Symbol.code (λ 𝓤 𝓛. sound_contract.spec 𝓛) (λ 𝓤 𝓛 mem run κs args. (tt, refl)) sound_proof.Met.met;
+  contactor = ends_on_all M contactor_contract.signature contactor_proof.Symbol.name contactor_proof.Symbol.code (λ 𝓤 𝓛. contactor_contract.spec 𝓛) (λ 𝓤 𝓛 mem run κs args. (tt, refl)) contactor_proof.Met.met;
+  read_event = ends_on_all M read_event_contract.signature read_event_proof.Symbol.name read_event_proof.Symbol.code (λ 𝓤 𝓛. read_event_contract.spec 𝓛) (λ 𝓤 𝓛 mem run κs args. (tt, refl)) read_event_proof.Met.met;
+  read_entry = ends_on_all M read_entry_contract.signature read_entry_proof.Symbol.name read_entry_proof.Symbol.code (λ 𝓤 𝓛. read_entry_contract.spec 𝓛) (λ 𝓤 𝓛 mem run κs args. (tt, refl)) read_entry_proof.Met.met;
+  write_event = ends_on_all M write_event_contract.signature write_event_proof.Symbol.name write_event_proof.Symbol.code (λ 𝓤 𝓛. write_event_contract.spec 𝓛) (λ 𝓤 𝓛 mem run κs args. (tt, refl)) write_event_proof.Met.met;
+  write_entry = ends_on_all M write_entry_contract.signature write_entry_proof.Symbol.name write_entry_proof.Symbol.code (λ 𝓤 𝓛. write_entry_contract.spec 𝓛) (λ 𝓤 𝓛 mem run κs args. (tt, refl)) write_entry_proof.Met.met;
+  export_long = ends_on_all M export_long_contract.signature export_long_proof.Symbol.name export_long_proof.Symbol.code (λ 𝓤 𝓛. export_long_contract.spec 𝓛) (λ 𝓤 𝓛 mem run κs args. (tt, refl)) export_long_proof.Met.met;
+  export_short = ends_on_all M export_short_contract.signature export_short_proof.Symbol.name export_short_proof.Symbol.code (λ 𝓤 𝓛. export_short_contract.spec 𝓛) (λ 𝓤 𝓛 mem run κs args. (tt, refl)) export_short_proof.Met.met;
+  reader_starting_at = ends_on_all M reader_starting_at_contract.signature reader_starting_at_proof.Symbol.name reader_starting_at_proof.Symbol.code (λ 𝓤 𝓛. reader_starting_at_contract.spec 𝓛) (λ 𝓤 𝓛 mem run κs args. (tt, refl)) reader_starting_at_proof.Met.met;
+  reader_peek = ends_on_all M reader_peek_contract.signature reader_peek_proof.Symbol.name reader_peek_proof.Symbol.code (λ 𝓤 𝓛. reader_peek_contract.spec 𝓛) (λ 𝓤 𝓛 mem run κs args. (tt, refl)) reader_peek_proof.Met.met;
+  reader_next = ends_on_all M reader_next_contract.signature reader_next_proof.Symbol.name reader_next_proof.Symbol.code (λ 𝓤 𝓛. reader_next_contract.spec 𝓛) (λ 𝓤 𝓛 mem run κs args. (tt, refl)) reader_next_proof.Met.met;
+  reader_rest = ends_on_all M reader_rest_contract.signature reader_rest_proof.Symbol.name reader_rest_proof.Symbol.code (λ 𝓤 𝓛. reader_rest_contract.spec 𝓛) (λ 𝓤 𝓛 mem run κs args. (tt, refl)) reader_rest_proof.Met.met;
+  event_at = ends_on_all M event_at_contract.signature event_at_proof.Symbol.name event_at_proof.Symbol.code (λ 𝓤 𝓛. event_at_contract.spec 𝓛) (λ 𝓤 𝓛 mem run κs args. (tt, refl)) event_at_proof.Met.met;
+  apply_block = ends_on_all M apply_block_contract.signature apply_block_proof.Symbol.name apply_block_proof.Symbol.code (λ 𝓤 𝓛. apply_block_contract.spec 𝓛) (λ 𝓤 𝓛 mem run κs args. (tt, refl)) apply_block_proof.Met.met;
 }

@@ -17,7 +17,7 @@ use Rattle.rules.specs.Numbers.{answer_of_read_event}
 use Rattle.rules.specs.Bytes.{event_forms}
 use Rattle.reader.specs.declared.Read.{Read}
 use Rattle.reader.specs.contracts.next as next
-use Rattle.log.proofs.event_at.Reads as event-at
+use Rattle.event_log.proofs.event_at.Reads as event-at
 use Rattle.rules.specs.Answers.{ReadAllows}
 use Rattle.rules.proofs.Listed.{reading_allows, reader_allows}
 use Rattle.demands.specs.Reader.{NextAllows}

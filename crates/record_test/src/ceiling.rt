@@ -4,32 +4,37 @@ use crate::{edit, limits};
 use rules::calls::{Command, Event, Request};
 use rules::limits::COMMAND_CEILING;
 use rules::units::Milliseconds;
+use std::io;
+use std::io::Write;
 use testing::print;
 
-pub fn run() {
+pub fn run<W: Write>(out: &mut W) -> io::Result<()> {
     let t = Milliseconds(1_000);
     let r = edit::commands(COMMAND_CEILING - 1);
-    print::text(b"ceiling\n");
-    let a = limits::call(b"open ", r, Event::ContactorCommand(t, Command::Open));
-    print::text(b"\n");
-    record_text::print(a, engine::contactor(a));
+    print::text(out, b"ceiling\n")?;
+    let a = limits::call(out, b"open ", r, Event::ContactorCommand(t, Command::Open))?;
+    print::text(out, b"\n")?;
+    record_text::print(out, a, engine::contactor(a))?;
     limits::call(
+        out,
         b"automated ",
         a,
         Event::ContactorCommand(t, Command::Automated),
-    );
-    limits::call(b", override ", a, Event::BattleOverride(t, true));
+    )?;
+    limits::call(out, b", override ", a, Event::BattleOverride(t, true))?;
     let b = limits::call(
+        out,
         b", maintenance ",
         a,
         Event::StateRequest(t, Request::Maintenance),
-    );
+    )?;
     limits::call(
+        out,
         b", force closed ",
         b,
         Event::ContactorCommand(t, Command::ForceClosed),
-    );
-    let c = limits::call(b", power loss ", b, Event::PowerLoss(t));
-    print::text(b"\n");
-    record_text::print(c, engine::contactor(c));
+    )?;
+    let c = limits::call(out, b", power loss ", b, Event::PowerLoss(t))?;
+    print::text(out, b"\n")?;
+    record_text::print(out, c, engine::contactor(c))
 }

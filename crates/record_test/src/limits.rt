@@ -11,6 +11,8 @@ use rules::battery::Record;
 use rules::calls::Event;
 use rules::limits::{LONG_TERM_ENTRIES, SHORT_TERM_ENTRIES};
 use rules::units::Milliseconds;
+use std::io;
+use std::io::Write;
 use testing::table::Next;
 use testing::{print, slice, table};
 
@@ -27,69 +29,71 @@ fn untouched(s: &[u8]) -> bool
     same
 }
 
-fn print_kept(kept: bool) {
+fn print_kept<W: Write>(out: &mut W, kept: bool) -> io::Result<()> {
     if kept {
-        print::text(b" kept");
+        print::text(out, b" kept")?;
     } else {
-        print::text(b" CHANGED");
+        print::text(out, b" CHANGED")?;
     }
+    Ok(())
 }
 
-fn print_written(w: Written, buffer: &[u8]) {
+fn print_written<W: Write>(out: &mut W, w: Written, buffer: &[u8]) -> io::Result<()> {
     match w {
         Written::Bytes(n) => {
-            print::decimal(n as u64);
-            print_kept(untouched(slice::part(buffer, n, buffer.len())));
+            print::decimal(out, n as u64)?;
+            print_kept(out, untouched(slice::part(buffer, n, buffer.len())))?;
         }
         Written::Refused(refusal) => {
-            print::text(b"refused ");
-            print::decimal(refusal as u64);
-            print_kept(untouched(buffer));
+            print::text(out, b"refused ")?;
+            print::decimal(out, refusal as u64)?;
+            print_kept(out, untouched(buffer))?;
         }
     }
+    Ok(())
 }
 
-fn long_into(r: Record, buffer: &mut [u8]) {
-    print::text(b", long ");
-    print_written(export::export_long(r, buffer), buffer);
+fn long_into<W: Write>(out: &mut W, r: Record, buffer: &mut [u8]) -> io::Result<()> {
+    print::text(out, b", long ")?;
+    print_written(out, export::export_long(r, buffer), buffer)
 }
 
-fn short_into(r: Record, buffer: &mut [u8]) {
-    print::text(b", short ");
-    print_written(export::export_short(r, buffer), buffer);
+fn short_into<W: Write>(out: &mut W, r: Record, buffer: &mut [u8]) -> io::Result<()> {
+    print::text(out, b", short ")?;
+    print_written(out, export::export_short(r, buffer), buffer)
 }
 
-fn exports(r: Record) {
+fn exports<W: Write>(out: &mut W, r: Record) -> io::Result<()> {
     let mut long = [0xeeu8; 700];
     let mut short = [0xeeu8; 200];
-    long_into(r, &mut long);
-    short_into(r, &mut short);
-    print::text(b"\n");
+    long_into(out, r, &mut long)?;
+    short_into(out, r, &mut short)?;
+    print::text(out, b"\n")
 }
 
 // The answer of a call; where it is refused, whether the record is as it was.
-pub fn call(name: &[u8], r: Record, e: Event) -> Record {
+pub fn call<W: Write>(out: &mut W, name: &[u8], r: Record, e: Event) -> io::Result<Record> {
     let o = engine::apply(r, e);
-    print::text(name);
-    print::decimal(o.refusal as u64);
+    print::text(out, name)?;
+    print::decimal(out, o.refusal as u64)?;
     if o.refusal != 0 {
-        print_kept(compare::same(r, o.after));
+        print_kept(out, compare::same(r, o.after))?;
     }
-    o.after
+    Ok(o.after)
 }
 
 // The rest of a line that begins with the record's name.
-fn judge(r: Record) {
+fn judge<W: Write>(out: &mut W, r: Record) -> io::Result<()> {
     if engine::sound(r) {
-        print::text(b": sound");
+        print::text(out, b": sound")?;
     } else {
-        print::text(b": unsound");
+        print::text(out, b": unsound")?;
     }
     let l = r.live;
     let t = l.last;
-    call(b", power loss ", r, Event::PowerLoss(t));
-    call(b", early power on ", r, Event::PowerOn(Milliseconds(0)));
-    exports(r);
+    call(out, b", power loss ", r, Event::PowerLoss(t))?;
+    call(out, b", early power on ", r, Event::PowerOn(Milliseconds(0)))?;
+    exports(out, r)
 }
 
 // The sound record with one thing changed, by the eight bytes of a case: what is changed, a place, a small number, the length of the
@@ -113,41 +117,42 @@ fn changed(head: &[u8]) -> Record {
     }
 }
 
-fn case(head: &[u8], name: &[u8]) {
-    print::text(name);
-    judge(changed(head));
+fn case<W: Write>(out: &mut W, head: &[u8], name: &[u8]) -> io::Result<()> {
+    print::text(out, name)?;
+    judge(out, changed(head))
 }
 
 // The name stands after the eight bytes.
-fn cases(table: &[u8]) {
+fn cases<W: Write>(out: &mut W, table: &[u8]) -> io::Result<()> {
     let mut at: usize = 0;
     while at < table.len() {
         let Next::Case(start, end) = table::case_at(table, at, 8) else {
-            return;
+            return Ok(());
         };
-        case(
+        case(out, 
             slice::part(table, at, start),
             slice::part(table, start, end),
-        );
+        )?;
         at = end;
     }
+    Ok(())
 }
 
 // A sound record's exports into buffers that are just long enough, and one byte shorter.
-fn buffers() {
+fn buffers<W: Write>(out: &mut W) -> io::Result<()> {
     let mut long = [0xeeu8; 640];
     let mut less_long = [0xeeu8; 639];
     let mut short = [0xeeu8; 156];
     let mut less_short = [0xeeu8; 155];
-    print::text(b"buffers");
-    long_into(edit::long(LONG_TERM_ENTRIES, 0, 0), &mut long);
-    long_into(edit::long(LONG_TERM_ENTRIES, 0, 0), &mut less_long);
-    short_into(edit::short(SHORT_TERM_ENTRIES, 0, 0), &mut short);
-    short_into(edit::short(SHORT_TERM_ENTRIES, 0, 0), &mut less_short);
-    print::text(b"\n");
+    print::text(out, b"buffers")?;
+    long_into(out, edit::long(LONG_TERM_ENTRIES, 0, 0), &mut long)?;
+    long_into(out, edit::long(LONG_TERM_ENTRIES, 0, 0), &mut less_long)?;
+    short_into(out, edit::short(SHORT_TERM_ENTRIES, 0, 0), &mut short)?;
+    short_into(out, edit::short(SHORT_TERM_ENTRIES, 0, 0), &mut less_short)?;
+    print::text(out, b"\n")
 }
 
-pub fn run(table: &[u8]) {
-    cases(table);
-    buffers();
+pub fn run<W: Write>(out: &mut W, table: &[u8]) -> io::Result<()> {
+    cases(out, table)?;
+    buffers(out)
 }

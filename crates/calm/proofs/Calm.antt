@@ -68,11 +68,11 @@ module _ (battery : ℕ) (coldest : DeciCelsius) (i : Milliamperes) where
   unfolding surely_permitted
   surely h =
       one_of (i ≤mA ma (pos 0)) _ h no_charge
-      (λ h. one_of (permitted_from coldest i 50 6_666) _ h (from 50 6_666 (omega arith, omega arith))
-      (λ h. one_of (permitted_from coldest i 100 15_000) _ h (from 100 15_000 (omega arith, omega arith))
-      (λ h. one_of (permitted_from coldest i 150 26_666) _ h (from 150 26_666 (omega arith, omega arith))
-      (λ h. one_of (permitted_from coldest i 200 41_666) _ h (from 200 41_666 (omega arith, omega arith))
-      (from 250 60_000 (omega arith, omega arith))))))
+      (λ h. one_of _ _ h (from _ _ (omega arith, omega arith))
+      (λ h. one_of _ _ h (from _ _ (omega arith, omega arith))
+      (λ h. one_of _ _ h (from _ _ (omega arith, omega arith))
+      (λ h. one_of _ _ h (from _ _ (omega arith, omega arith))
+      (from _ _ (omega arith, omega arith))))))
 
 -- ---- the parts of the test
 

@@ -1,92 +1,22 @@
--- A table of rows against document 01's curve: one test that computes over the whole table, and what it says of each row.
-use Prim.Native.Nat.{ℕ, zero, suc, ◌+◌, ◌*◌, ◌/◌, ◌%◌, ◌≤◌, ◌<◌}
-use mathlib.Core.Path.{◌≡◌, ap}
+-- A table of rows against document 01's curve: one test that computes over the whole table. `Rows` has what it says of each row.
+use Prim.Native.Nat.{ℕ, suc}
 use mathlib.Core.Bool.{Bool, true, false, ◌&&◌}
 use mathlib.Core.List.{List, [], ◌∷◌}
-use native.Mathlib.Nat.{div-add-mod', mod-lt, le_of_suc-le-suc, not-suc-le-zero, mul-le-mul, div-le_of_le-mul}
-use native.Mathlib.Omega.{arith}
-use borrow.Author.Tests.{lt-ltb, le-ltb}
-use lib.Dec.{T, eqb, eqb→eq}
+use lib.Dec.{eqb}
 use lib.IntN.{ℤ, pos, negsuc}
-use lib.ListN.{length, get_or}
-use mir.Syntax.{w32}
-use mir.Val.{to_z, of_z}
-use mir.Facts.{and_yes, to_z_pos}
-use Rattle.rules.specs.declared.units.Milliamperes.{Milliamperes}
-use Rattle.rules.specs.Quantities.{ma}
-use Rattle.rules.specs.Protections.{curve, permitted_at}
-
--- ---- the test
+use lib.ListN.{length}
+use Rattle.rules.specs.Protections.{curve}
 
 -- whether a row is a given figure
-abbrev is_figure : ℕ → ℤ → Bool
+abbrev pub is_figure : ℕ → ℤ → Bool
 is_figure n (pos m) = eqb m n
 is_figure n (negsuc m) = false
 
 -- whether each row is what a rule has for its place, counted from 0
-abbrev follows : (ℕ → ℕ) → List ℤ → Bool
+abbrev pub follows : (ℕ → ℕ) → List ℤ → Bool
 follows rule [] = true
 follows rule (row ∷ rows) = is_figure (rule 0) row && follows (λ k. rule (suc k)) rows
 
 -- whether a table has 250 rows, each of them the curve at its own place
 abbrev pub is_curve : (rating : ℕ) → List ℤ → Bool
 is_curve rating rows = eqb (length rows) 250 && follows (curve rating) rows
-
--- ---- what it says of each row
-
-figure_is : (n : ℕ) (row : ℤ) → T (is_figure n row) → row ≡ pos n
-figure_is n (pos m) h = ap pos (eqb→eq m n h)
-figure_is n (negsuc m) h = absurd h
-
-at_place : (rule : ℕ → ℕ) (rows : List ℤ) → T (follows rule rows) → (k : ℕ) → k < length rows → get_or rows k (pos 0) ≡ pos (rule k)
-at_place rule [] h k below = absurd (not-suc-le-zero below)
-at_place rule (row ∷ rows) h zero below = figure_is (rule 0) row (and_yes (is_figure (rule 0) row) (follows (λ k. rule (suc k)) rows) h).0
-at_place rule (row ∷ rows) h (suc k) below =
-    at_place (λ k. rule (suc k)) rows (and_yes (is_figure (rule 0) row) (follows (λ k. rule (suc k)) rows) h).1 k (le_of_suc-le-suc below)
-
-pub rows_250 : (rating : ℕ) (rows : List ℤ) → T (is_curve rating rows) → length rows ≡ 250
-rows_250 rating rows h = eqb→eq (length rows) 250 (and_yes (eqb (length rows) 250) (follows (curve rating) rows) h).0
-
-pub row_is : (rating : ℕ) (rows : List ℤ) → T (is_curve rating rows) → (c : ℕ) → c < 250 → get_or rows c (pos 0) ≡ pos (curve rating c)
-row_is rating rows h c below =
-    at_place (curve rating) rows (and_yes (eqb (length rows) 250) (follows (curve rating) rows) h).1 c (rw (rows_250 rating rows h) below)
-
--- ---- a row as the code reads it
-
--- for a rating of at most 90,000 no row is above that
-pub curve_small : (rating c : ℕ) → rating ≤ 90_000 → c < 250 → curve rating c ≤ 90_000
-curve_small rating c small below = div-le_of_le-mul 90_000 (mul-le-mul small (mul-le-mul near near))
-  where
-    near : c + 50 ≤ 300
-    near = omega arith
-
-row_read : (rating : ℕ) (rows : List ℤ) → T (is_curve rating rows) → rating ≤ 90_000 → (c : ℕ) → c < 250
-    → ◌≡◌ {A = Milliamperes} (ma (to_z w32 (of_z w32 (get_or rows c (pos 0))))) (ma (pos (permitted_at rating (pos c))))
-row_read rating rows h small c below =
-    rw (row_is rating rows h c below, lt-ltb c 250 below, to_z_pos w32 {n = curve rating c} (omega (arith, curve_small rating c small below)))
-
--- the same where the place is counted from the first row of its fifty
-pub row_in_fifty : (rating k : ℕ) → rating ≤ 90_000 → k < 5 → (place : ℕ) (rows : List ℤ) → T (is_curve rating rows)
-    → (c : ℕ) → c / 50 ≡ k → k * 50 + c % 50 ≡ place
-    → ◌≡◌ {A = Milliamperes} (ma (to_z w32 (of_z w32 (get_or rows place (pos 0))))) (ma (pos (permitted_at rating (pos c))))
-row_in_fifty rating k small few place rows h c at counted =
-    let whole : c / 50 * 50 + c % 50 ≡ c = div-add-mod' c 50 in
-    let inside : c % 50 < 50 = mod-lt c (omega arith) in
-    let here : place ≡ c = omega (arith, at, counted, whole) in
-    rw here (row_read rating rows h small c (omega (arith, at, few, whole, inside)))
-
--- ---- past the last row
-
-past_last : (rating c : ℕ) → 5 ≤ c / 50 → ma (pos rating) ≡ ma (pos (permitted_at rating (pos c)))
-past_last rating c past =
-    let whole : c / 50 * 50 + c % 50 ≡ c = div-add-mod' c 50 in
-    rw (le-ltb c 250 (omega (arith, past, whole)))
-
-above : (k n : ℕ) → k ≤ n → (n ≡ k → ⊥) → k + 1 ≤ n
-above k n from not = omega (arith, from, not)
-
-pub in_no_fifty : (rating c : ℕ) → (c / 50 ≡ 0 → ⊥) → (c / 50 ≡ 1 → ⊥) → (c / 50 ≡ 2 → ⊥) → (c / 50 ≡ 3 → ⊥) → (c / 50 ≡ 4 → ⊥)
-    → ma (pos rating) ≡ ma (pos (permitted_at rating (pos c)))
-in_no_fifty rating c not0 not1 not2 not3 not4 =
-    let from2 : 2 ≤ c / 50 = above 1 (c / 50) (above 0 (c / 50) (omega arith) not0) not1 in
-    past_last rating c (above 4 (c / 50) (above 3 (c / 50) (above 2 (c / 50) from2 not2) not3) not4)

@@ -1,1 +1,3 @@
 pub mod Curve
+pub mod Rows
+pub mod Fifty

@@ -11,7 +11,8 @@ use Rattle.rules.specs.declared.units.DeciCelsius.{DeciCelsius}
 use Rattle.rules.specs.declared.units.Milliamperes.{Milliamperes}
 use Rattle.rules.specs.Quantities.{ma, dc}
 use Rattle.rules.specs.Protections.{curve, permitted}
-use Rattle.curve.proofs.Curve.{is_curve, row_is, rows_250}
+use Rattle.curve.proofs.Curve.{is_curve}
+use Rattle.curve.proofs.Rows.{row_is, rows_250}
 use Rattle.permitted.proofs.permitted.Reads as permitted-reads
 
 -- what the code may give back for a battery type and a coldest temperature

@@ -11,7 +11,7 @@ use Rattle.rules.specs.declared.units.DeciCelsius.{DeciCelsius}
 use Rattle.rules.specs.declared.units.Milliamperes.{Milliamperes}
 use Rattle.rules.specs.Quantities.{ma, charge_rating}
 use Rattle.rules.specs.Protections.{curve, permitted_at, permitted}
-use Rattle.curve.proofs.Curve.{curve_small}
+use Rattle.curve.proofs.Fifty.{curve_small}
 
 pub not_negative : (c : ℤ) → lt_z c (pos 0) ≡ false → T (non_neg c)
 not_negative (pos n) e = tt

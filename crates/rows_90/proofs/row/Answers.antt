@@ -1,6 +1,6 @@
 use Rattle.std.proofs.Common.{arith}
 use native.Mathlib.Nat.{zero-add}
-use Rattle.curve.proofs.Curve.{row_in_fifty}
+use Rattle.curve.proofs.Fifty.{row_in_fifty}
 use Rattle.rows_90.proofs.row.Goals as goal
 
 pub returns-in-0 : goal.returns-in-0

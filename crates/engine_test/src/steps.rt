@@ -1,10 +1,12 @@
 // The reader that holds its log, at work on a log: ten reads in turn, and for each the answer, the reader's position afterwards and the
 // length of the remainder. After "end" and after a refusal the reads go on, to the same answer. A loop over a reader isn't covered, so each
 // read makes one where the last stood.
-ghost use Rattle.std.specs.Prelude.{◌≡◌, drop};
+ghost use Rattle.std.specs.Prelude.{◌≡◌, drop, IfOk};
 ghost use Rattle.rules.specs.Bytes.{next_position};
 
 use rules::answers::ReadEvent;
+use std::io;
+use std::io::Write;
 use testing::print;
 
 fn rest_at(log: &[u8], position: usize) -> &[u8]
@@ -13,57 +15,59 @@ fn rest_at(log: &[u8], position: usize) -> &[u8]
     reader::rest(reader::starting_at(log, position))
 }
 
-fn print_answer(a: ReadEvent) {
+fn print_answer<W: Write>(out: &mut W, a: ReadEvent) -> io::Result<()> {
     match a {
         ReadEvent::Found(_, next) => {
-            print::text(b"found, next ");
-            print::decimal(next as u64);
+            print::text(out, b"found, next ")?;
+            print::decimal(out, next as u64)?;
         }
-        ReadEvent::End => print::text(b"end"),
+        ReadEvent::End => print::text(out, b"end")?,
         ReadEvent::Refused(refusal, at) => {
-            print::text(b"refused ");
-            print::decimal(refusal as u64);
-            print::text(b" at ");
-            print::decimal(at as u64);
+            print::text(out, b"refused ")?;
+            print::decimal(out, refusal as u64)?;
+            print::text(out, b" at ")?;
+            print::decimal(out, at as u64)?;
         }
     }
+    Ok(())
 }
 
 // A reader put where this one stands has a remainder of the same length.
-fn print_read<'a>(log: &'a [u8], a: ReadEvent, position: usize, rest: &'a [u8]) {
-    print_answer(a);
-    print::text(b", position ");
-    print::decimal(position as u64);
-    print::text(b", rest ");
-    print::decimal(rest.len() as u64);
+fn print_read<'a, W: Write>(out: &mut W, log: &'a [u8], a: ReadEvent, position: usize, rest: &'a [u8]) -> io::Result<()> {
+    print_answer(out, a)?;
+    print::text(out, b", position ")?;
+    print::decimal(out, position as u64)?;
+    print::text(out, b", rest ")?;
+    print::decimal(out, rest.len() as u64)?;
     let other = rest_at(log, position);
     if other.len() != rest.len() {
-        print::text(b", but from there ");
-        print::decimal(other.len() as u64);
+        print::text(out, b", but from there ")?;
+        print::decimal(out, other.len() as u64)?;
     }
-    print::text(b"\n");
+    print::text(out, b"\n")
 }
 
 // One call gives the answer and the remainder, and moves the reader.
-fn step(log: &[u8], position: usize) -> usize
-    ensures { result ≡ next_position log.now position }
+fn step<W: Write>(out: &mut W, log: &[u8], position: usize) -> io::Result<usize>
+    ensures { IfOk result (λ next. next ≡ next_position log.now position) }
 {
     let mut r = reader::starting_at(log, position);
     let n = reader::next(&mut r);
-    print_read(log, n.answer, r.position, n.rest);
-    r.position
+    print_read(out, log, n.answer, r.position, n.rest)?;
+    Ok(r.position)
 }
 
 // The events stand after the type byte.
-pub fn run(log: &[u8]) {
-    let a = step(log, 1);
-    let b = step(log, a);
-    let c = step(log, b);
-    let d = step(log, c);
-    let e = step(log, d);
-    let f = step(log, e);
-    let g = step(log, f);
-    let h = step(log, g);
-    let i = step(log, h);
-    step(log, i);
+pub fn run<W: Write>(out: &mut W, log: &[u8]) -> io::Result<()> {
+    let a = step(out, log, 1)?;
+    let b = step(out, log, a)?;
+    let c = step(out, log, b)?;
+    let d = step(out, log, c)?;
+    let e = step(out, log, d)?;
+    let f = step(out, log, e)?;
+    let g = step(out, log, f)?;
+    let h = step(out, log, g)?;
+    let i = step(out, log, h)?;
+    step(out, log, i)?;
+    Ok(())
 }

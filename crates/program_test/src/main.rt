@@ -1,23 +1,35 @@
 // Runs each log that its arguments name through the console, as `sixt` runs its standard input, under a heading.
+#![tactic(auto)]
+
+use std::{env, io};
+use std::io::Write;
+use std::rt::{Env, Files};
 use testing::{files, print};
 
-fn run(i: usize) {
-    print::text(b"== ");
-    files::print_name(i);
-    print::text(b"\n");
-    let log = files::open(i);
-    if log < 0 {
-        return;
+fn run<R: Env + Files, O: Write, E: Write>(
+    rt: &R,
+    out: &mut O,
+    errors: &mut E,
+    i: usize,
+) -> io::Result<()> {
+    print::text(out, b"== ")?;
+    files::print_name(rt, out, i)?;
+    print::text(out, b"\n")?;
+    if let Ok(log) = files::open(rt, errors, i) {
+        let mut log = log;
+        console::run(&mut log, out, errors);
     }
-    console::run(log, libc::STDOUT_FILENO);
-    libc::close(log);
+    Ok(())
 }
 
-fn main() {
-    let count = os::arg_count();
+fn main(rt: HostRuntime) -> io::Result<()> {
+    let mut out = rt.stdout();
+    let mut errors = rt.stderr();
+    let count = env::args(&rt)?.len();
     let mut i: usize = 1;
     while i < count {
-        run(i);
+        run(&rt, &mut out, &mut errors, i)?;
         i += 1;
     }
+    Ok(())
 }

@@ -1,86 +1,92 @@
 // Runs `report` and `lines` on the log on its standard input and prints what comes out: for each prefix, then for all of it in two parts,
 // divided at each place, then with room for one line at a time.
-ghost use Rattle.std.specs.Prelude.{◌≡◌, ◌≤◌, length};
+#![tactic(auto)]
+
+ghost use Rattle.std.specs.Prelude.{◌≡◌, ◌≤◌, length, IfOk};
 ghost use Rattle.report_test.specs.Full.{is_full};
 
 use decision::Why;
 use lines::{Part, Progress};
-use testing::{print, slice};
+use std::io;
+use std::io::Write;
+use testing::{files, print, slice};
 
-fn heading(n: usize, after: &[u8]) {
-    print::text(b"== ");
-    print::decimal(n as u64);
-    print::text(after);
+fn heading<W: Write>(out: &mut W, n: usize, after: &[u8]) -> io::Result<()> {
+    print::text(out, b"== ")?;
+    print::decimal(out, n as u64)?;
+    print::text(out, after)
 }
 
-fn close(after: Progress, why: Why) {
-    let mut text = io::buffer();
+fn close<W: Write>(out: &mut W, after: Progress, why: Why) -> io::Result<()> {
+    let mut text = [0u8; 4096];
     let n = report::closing(after, why, &mut text);
-    print::text(slice::part(&text, 0, n));
+    print::text(out, slice::part(&text, 0, n))
 }
 
 // Prints the lines of a part, as many as a buffer has room for.
-fn lines(part: &[u8], before: Progress, text: &mut [u8]) -> Part
-    ensures { result.read ≤ length part.now }
+fn lines<W: Write>(out: &mut W, part: &[u8], before: Progress, text: &mut [u8]) -> io::Result<Part>
+    ensures { IfOk result (λ p. p.read ≤ length part.now) }
 {
     let p = lines::put_lines(part, before, text);
-    print::text(slice::part(text, 0, p.written));
-    p
+    print::text(out, slice::part(text, 0, p.written))?;
+    Ok(p)
 }
 
 // The same with room for one line of the longest kind.
-fn line(part: &[u8], before: Progress) -> Part
-    ensures { result.read ≤ length part.now }
+fn line<W: Write>(out: &mut W, part: &[u8], before: Progress) -> io::Result<Part>
+    ensures { IfOk result (λ p. p.read ≤ length part.now) }
 {
     let mut text = [0u8; 72];
-    lines(part, before, &mut text)
+    lines(out, part, before, &mut text)
 }
 
 // The text of a log that is handed over whole.
-fn whole(log: &[u8]) {
-    let mut text = io::buffer();
+fn whole<W: Write>(out: &mut W, log: &[u8]) -> io::Result<()> {
+    let mut text = [0u8; 4096];
     let opening = report::opening(log);
     let start = opening.progress;
     if log.len() == 0 {
-        close(start, Why::Refused(opening.refusal));
-        return;
+        close(out, start, Why::Refused(opening.refusal))?;
+        return Ok(());
     }
-    let part = lines(&log[1..], start, &mut text);
+    let part = lines(out, &log[1..], start, &mut text)?;
     let end = part.progress;
     let why = part.why;
-    close(end, why);
+    close(out, end, why)
 }
 
 // The text of a log that is handed over in two parts, what the first left unread with the second.
-fn divided(log: &[u8], n: usize) {
-    let mut text = io::buffer();
+fn divided<W: Write>(out: &mut W, log: &[u8], n: usize) -> io::Result<()> {
+    let mut text = [0u8; 4096];
     let opening = report::opening(slice::part(log, 0, n));
     let start = opening.progress;
-    let first = lines(slice::part(log, 1, n), start, &mut text);
+    let first = lines(out, slice::part(log, 1, n), start, &mut text)?;
     let middle = first.progress;
-    let at = std::num::wrapping_add_usize(1, first.read);
-    let second = lines(slice::part(log, at, log.len()), middle, &mut text);
+    let at = 1usize.wrapping_add(first.read);
+    let second = lines(out, slice::part(log, at, log.len()), middle, &mut text)?;
     let end = second.progress;
     let why = second.why;
-    close(end, why);
+    close(out, end, why)
 }
 
-fn prefixes(log: &[u8]) {
+fn prefixes<W: Write>(out: &mut W, log: &[u8]) -> io::Result<()> {
     let mut n: usize = 0;
     while n <= log.len() {
-        heading(n, b"\n");
-        whole(slice::part(log, 0, n));
+        heading(out, n, b"\n")?;
+        whole(out, slice::part(log, 0, n))?;
         n += 1;
     }
+    Ok(())
 }
 
-fn divisions(log: &[u8]) {
+fn divisions<W: Write>(out: &mut W, log: &[u8]) -> io::Result<()> {
     let mut n: usize = 1;
     while n <= log.len() {
-        heading(n, b" and on\n");
-        divided(log, n);
+        heading(out, n, b" and on\n")?;
+        divided(out, log, n)?;
         n += 1;
     }
+    Ok(())
 }
 
 fn is_full(why: Why) -> bool
@@ -96,34 +102,36 @@ fn is_full(why: Why) -> bool
 }
 
 // Each call is cut off by its buffer or by the end.
-fn line_by_line(log: &[u8]) {
-    print::text(b"== line by line\n");
+fn line_by_line<W: Write>(out: &mut W, log: &[u8]) -> io::Result<()> {
+    print::text(out, b"== line by line\n")?;
     let opening = report::opening(log);
     let mut progress = opening.progress;
     let mut at: usize = 1;
     while at <= log.len() {
-        let part = line(slice::part(log, at, log.len()), progress);
+        let part = line(out, slice::part(log, at, log.len()), progress)?;
         progress = part.progress;
         let why = part.why;
         if !is_full(why) {
-            close(progress, why);
-            return;
+            close(out, progress, why)?;
+            return Ok(());
         }
         let read = part.read;
         if read == 0 {
-            return;
+            return Ok(());
         }
         if log.len() - at < read {
-            return;
+            return Ok(());
         }
         at += read;
     }
+    Ok(())
 }
 
-fn main() {
-    let mut log = io::buffer();
-    let n = io::read_full(libc::STDIN_FILENO, &mut log);
-    prefixes(&log[..n]);
-    divisions(&log[..n]);
-    line_by_line(&log[..n]);
+fn main(rt: HostRuntime) -> io::Result<()> {
+    let mut log = [0u8; 4096];
+    let mut out = rt.stdout();
+    let n = files::read_full(&mut rt.stdin(), &mut log);
+    prefixes(&mut out, &log[..n])?;
+    divisions(&mut out, &log[..n])?;
+    line_by_line(&mut out, &log[..n])
 }

@@ -5,7 +5,7 @@
 ghost use Rattle.std.specs.Prelude.{◌≡◌};
 ghost use Rattle.step.specs.Refusal.{refusal_tested};
 ghost use Rattle.step.specs.Sound.{sound_rest};
-ghost use Rattle.step.proofs.Rest.{Shaped};
+ghost use Rattle.step.proofs.Shaped.{Shaped};
 ghost use Rattle.judging.specs.Judging.{live_by, changes_by, judged, judged_tested};
 
 use rules::battery::Live;

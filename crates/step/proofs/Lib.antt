@@ -14,4 +14,7 @@ pub mod Overrides
 pub mod Claims
 pub mod Printing
 pub mod StateMap
+pub mod Shaped
+pub mod Carried
+pub mod RestCall
 pub mod Rest

@@ -160,7 +160,12 @@ fn entry_into<W: Write>(out: &mut W, e: Entry, buffer: &mut [u8]) -> io::Result<
     print_written(out, entry_writer::write_entry(e, buffer), buffer)
 }
 
-fn event_case<W: Write>(out: &mut W, s: &[u8], position: usize, buffer: &mut [u8]) -> io::Result<()> {
+fn event_case<W: Write>(
+    out: &mut W,
+    s: &[u8],
+    position: usize,
+    buffer: &mut [u8],
+) -> io::Result<()> {
     match event_reader::read_event(s, position) {
         ReadEvent::Found(e, next) => {
             print_event(out, e)?;
@@ -177,7 +182,12 @@ fn event_case<W: Write>(out: &mut W, s: &[u8], position: usize, buffer: &mut [u8
     Ok(())
 }
 
-fn entry_case<W: Write>(out: &mut W, s: &[u8], position: usize, buffer: &mut [u8]) -> io::Result<()> {
+fn entry_case<W: Write>(
+    out: &mut W,
+    s: &[u8],
+    position: usize,
+    buffer: &mut [u8],
+) -> io::Result<()> {
     match entry_reader::read_entry(s, position) {
         ReadEntry::Found(e, next) => {
             print_entry(out, e)?;
@@ -199,7 +209,13 @@ fn write_case<W: Write>(out: &mut W, e: Entry, buffer: &mut [u8]) -> io::Result<
     entry_into(out, e, buffer)
 }
 
-fn case<W: Write>(out: &mut W, which: u8, position: usize, s: &[u8], buffer: &mut [u8]) -> io::Result<()> {
+fn case<W: Write>(
+    out: &mut W,
+    which: u8,
+    position: usize,
+    s: &[u8],
+    buffer: &mut [u8],
+) -> io::Result<()> {
     let p = word_reader::byte_at(s, 0);
     match which {
         0 => event_case(out, s, position, buffer)?,
@@ -215,7 +231,8 @@ fn case_by<W: Write>(out: &mut W, head: &[u8], s: &[u8]) -> io::Result<()> {
     let mut buffer = [0xeeu8; 64];
     let room = slice::byte(head, 2);
     if room <= 64 {
-        case(out, 
+        case(
+            out,
             word_reader::byte_at(head, 0),
             slice::byte(head, 1),
             s,
@@ -231,7 +248,8 @@ fn cases<W: Write>(out: &mut W, table: &[u8]) -> io::Result<()> {
         let Next::Case(start, end) = table::case_at(table, at, 4) else {
             return Ok(());
         };
-        case_by(out, 
+        case_by(
+            out,
             slice::part(table, at, start),
             slice::part(table, start, end),
         )?;

@@ -2,11 +2,16 @@
 // events there are and how many calls are made, and for each of three repetitions the processor time in nanoseconds, in all and per call, and
 // the refusals: of calls on events that were read before and of reading and calls, both with each store kept apart and written only where a
 // call touches it; of calls that take a whole record, test all of its soundness and give a whole record back; and of blocks of 1,000 events.
+#![tactic(auto)]
+
 use rules::answers::ReadEvent;
 use rules::battery::Record;
 use rules::calls::Event;
 use rules::limits::BLOCK_EVENTS;
 use rules::units::Milliseconds;
+use std::io::Write;
+use std::rt::CpuClock;
+use std::{env, io};
 use testing::{files, print, slice};
 
 // The first events of a log are kept, as many as there are slots.
@@ -33,7 +38,7 @@ fn events(input: &[u8]) -> [Slot; SLOTS] {
     let mut at: usize = 1;
     let mut i: usize = 0;
     while i < SLOTS {
-        let ReadEvent::Found(e, next) = log::event_at(input, at) else {
+        let ReadEvent::Found(e, next) = event_log::event_at(input, at) else {
             return slots;
         };
         slots[i] = Slot { event: e };
@@ -75,7 +80,7 @@ fn call(slots: [Slot; SLOTS], count: usize, first: Record) -> usize {
         }
         live = after;
         if j.refusal != 0 {
-            refused = std::num::wrapping_add_usize(refused, 1);
+            refused = refused.wrapping_add(1);
         }
         i += 1;
         left -= 1;
@@ -95,7 +100,7 @@ fn read_and_call(input: &[u8], first: Record) -> usize {
     let mut left = CALLS;
     while 0 < left {
         left -= 1;
-        let ReadEvent::Found(e, next) = log::event_at(input, at) else {
+        let ReadEvent::Found(e, next) = event_log::event_at(input, at) else {
             at = 1;
             live = first.live;
             short = stores.short;
@@ -112,7 +117,7 @@ fn read_and_call(input: &[u8], first: Record) -> usize {
         }
         live = after;
         if j.refusal != 0 {
-            refused = std::num::wrapping_add_usize(refused, 1);
+            refused = refused.wrapping_add(1);
         }
         at = next;
     }
@@ -138,7 +143,7 @@ fn call_whole(slots: [Slot; SLOTS], count: usize, first: Record) -> usize {
         let o = engine::apply(held, e);
         held = o.after;
         if o.refusal != 0 {
-            refused = std::num::wrapping_add_usize(refused, 1);
+            refused = refused.wrapping_add(1);
         }
         i += 1;
         left -= 1;
@@ -152,8 +157,8 @@ fn starts(input: &[u8]) -> [usize; STARTS] {
     let mut at: usize = 1;
     let mut i: usize = 1;
     while i < STARTS {
-        let readable = log::readable(slice::part(input, at, input.len()), BLOCK_EVENTS);
-        at = std::num::wrapping_add_usize(at, readable.bytes);
+        let readable = event_log::readable(slice::part(input, at, input.len()), BLOCK_EVENTS);
+        at = at.wrapping_add(readable.bytes);
         starts[i] = at;
         i += 1;
     }
@@ -179,12 +184,23 @@ fn send(input: &[u8], starts: [usize; STARTS], first: Record, answers: &mut [u8]
         let sent = block::apply_block(held, slice::part(input, start, end), answers);
         held = sent.after;
         if sent.refusal != 0 {
-            refused = std::num::wrapping_add_usize(refused, 1);
+            refused = refused.wrapping_add(1);
         }
         i += 1;
         left -= 1;
     }
     refused
+}
+
+// Microseconds of processor time that the program has taken, -1 where the clock fails.
+fn clock<R: CpuClock>(rt: &R) -> i64 {
+    match rt.process_cpu_time() {
+        Ok(time) => match i64::try_from(time.as_micros()) {
+            Ok(us) => us,
+            Err(_) => -1,
+        },
+        Err(_) => -1,
+    }
 }
 
 fn natural(z: i64) -> u64 {
@@ -194,7 +210,7 @@ fn natural(z: i64) -> u64 {
     z as u64
 }
 
-// Microseconds of processor time between two answers of the clock; the clock answers -1 where it fails.
+// Microseconds of processor time between two answers of the clock.
 fn between(start: i64, end: i64) -> u64 {
     let s = natural(start);
     let e = natural(end);
@@ -204,56 +220,71 @@ fn between(start: i64, end: i64) -> u64 {
     e - s
 }
 
-fn report(name: &[u8], start: i64, end: i64, refused: usize) {
+fn report<W: Write>(
+    out: &mut W,
+    name: &[u8],
+    start: i64,
+    end: i64,
+    refused: usize,
+) -> io::Result<()> {
     let us = between(start, end);
     if us < 1_000_000_000_000 {
         let ns = us * 1000;
-        print::text(name);
-        print::decimal(ns);
-        print::text(b" ns, per call ");
-        print::decimal(ns / (CALLS as u64));
-        print::line(b", refused ", refused as u64);
+        print::text(out, name)?;
+        print::decimal(out, ns)?;
+        print::text(out, b" ns, per call ")?;
+        print::decimal(out, ns / (CALLS as u64))?;
+        print::line(out, b", refused ", refused as u64)?;
     }
+    Ok(())
 }
 
-fn repeat(input: &[u8], slots: [Slot; SLOTS], count: usize, first: Record) {
-    let start = libc::clock();
+fn repeat<R: CpuClock, W: Write>(
+    rt: &R,
+    out: &mut W,
+    input: &[u8],
+    slots: [Slot; SLOTS],
+    count: usize,
+    first: Record,
+) -> io::Result<()> {
+    let start = clock(rt);
     let refused = call(slots, count, first);
-    let called = libc::clock();
+    let called = clock(rt);
     let read = read_and_call(input, first);
-    let both = libc::clock();
+    let both = clock(rt);
     let whole = call_whole(slots, count, first);
-    let last = libc::clock();
+    let last = clock(rt);
     let mut answers = [0u8; BLOCK_EVENTS];
     let sent = send(input, starts(input), first, &mut answers);
-    let end = libc::clock();
-    report(b"calls ", start, called, refused);
-    report(b"reading and calls ", called, both, read);
-    report(b"calls on a whole record ", both, last, whole);
-    report(b"blocks of 1,000 ", last, end, sent);
+    let end = clock(rt);
+    report(out, b"calls ", start, called, refused)?;
+    report(out, b"reading and calls ", called, both, read)?;
+    report(out, b"calls on a whole record ", both, last, whole)?;
+    report(out, b"blocks of 1,000 ", last, end, sent)
 }
 
-fn run(input: &[u8]) {
+fn run<R: CpuClock, W: Write>(rt: &R, out: &mut W, input: &[u8]) -> io::Result<()> {
     if 0 < input.len() {
         let f = engine::fresh(input[0]);
         let first = f.start;
         let slots = events(input);
-        let readable = log::readable(slice::part(input, 1, input.len()), SLOTS);
+        let readable = event_log::readable(slice::part(input, 1, input.len()), SLOTS);
         let n = readable.count;
-        print::line(b"events ", n as u64);
-        print::line(b"calls ", CALLS as u64);
-        repeat(input, slots, n, first);
-        repeat(input, slots, n, first);
-        repeat(input, slots, n, first);
+        print::line(out, b"events ", n as u64)?;
+        print::line(out, b"calls ", CALLS as u64)?;
+        repeat(rt, out, input, slots, n, first)?;
+        repeat(rt, out, input, slots, n, first)?;
+        repeat(rt, out, input, slots, n, first)?;
     }
+    Ok(())
 }
 
-fn main() {
-    if os::arg_count() < 2 {
-        print::text(b"usage: engine_bench LOG\n");
-        return;
+fn main(rt: HostRuntime) -> io::Result<()> {
+    let mut out = rt.stdout();
+    if env::args(&rt)?.len() < 2 {
+        return print::text(&mut out, b"usage: engine_bench LOG\n");
     }
     let mut input = [0u8; 147456];
-    let n = files::read(1, &mut input);
-    run(&input[..n]);
+    let n = files::read(&rt, &mut rt.stderr(), 1, &mut input);
+    run(&rt, &mut out, &input[..n])
 }

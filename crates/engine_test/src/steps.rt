@@ -33,7 +33,13 @@ fn print_answer<W: Write>(out: &mut W, a: ReadEvent) -> io::Result<()> {
 }
 
 // A reader put where this one stands has a remainder of the same length.
-fn print_read<'a, W: Write>(out: &mut W, log: &'a [u8], a: ReadEvent, position: usize, rest: &'a [u8]) -> io::Result<()> {
+fn print_read<'a, W: Write>(
+    out: &mut W,
+    log: &'a [u8],
+    a: ReadEvent,
+    position: usize,
+    rest: &'a [u8],
+) -> io::Result<()> {
     print_answer(out, a)?;
     print::text(out, b", position ")?;
     print::decimal(out, position as u64)?;

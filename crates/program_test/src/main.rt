@@ -1,9 +1,9 @@
 // Runs each log that its arguments name through the console, as `sixt` runs its standard input, under a heading.
 #![tactic(auto)]
 
-use std::{env, io};
 use std::io::Write;
 use std::rt::{Env, Files};
+use std::{env, io};
 use testing::{files, print};
 
 fn run<R: Env + Files, O: Write, E: Write>(

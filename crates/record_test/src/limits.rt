@@ -92,7 +92,12 @@ fn judge<W: Write>(out: &mut W, r: Record) -> io::Result<()> {
     let l = r.live;
     let t = l.last;
     call(out, b", power loss ", r, Event::PowerLoss(t))?;
-    call(out, b", early power on ", r, Event::PowerOn(Milliseconds(0)))?;
+    call(
+        out,
+        b", early power on ",
+        r,
+        Event::PowerOn(Milliseconds(0)),
+    )?;
     exports(out, r)
 }
 
@@ -129,7 +134,8 @@ fn cases<W: Write>(out: &mut W, table: &[u8]) -> io::Result<()> {
         let Next::Case(start, end) = table::case_at(table, at, 8) else {
             return Ok(());
         };
-        case(out, 
+        case(
+            out,
             slice::part(table, at, start),
             slice::part(table, start, end),
         )?;

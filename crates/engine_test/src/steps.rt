@@ -1,6 +1,6 @@
 // The reader that holds its log, at work on a log: ten reads in turn, and for each the answer, the reader's position afterwards and the
-// length of the remainder. After "end" and after a refusal the reads go on, to the same answer. A loop over a reader isn't covered, so each
-// read makes one where the last stood.
+// length of the remainder. After "end" and after a refusal the reads go on, to the same answer. Each read makes a reader where the last one
+// stood.
 ghost use Rattle.std.specs.Prelude.{◌≡◌, drop, IfOk};
 ghost use Rattle.rules.specs.Bytes.{next_position};
 

@@ -3,12 +3,14 @@ use mathlib.Core.Path.{◌≡◌, refl}
 use Prim.Native.Nat.{ℕ}
 use seplogic.Ra.Ura.{Ura}
 use base.Logic.{SProp, sep, emp}
+use mir.Syntax.{Symbol}
 use mir.Val.{Val}
 use prog.Memory.{Memory}
 use prog.Machine.{done}
 use prog.Model.{Model}
 use prog.Routine.{Routine, Callee, step}
 use prog.Wired.{Code, Wired}
+use prog.Linked.{Entry, Has, Has-Wired, tie, tie-Follows}
 use contract.Adequate.{Satisfies}
 use types.Logic.{Logic}
 use contract.Lifetimes.{Lfts}
@@ -84,6 +86,10 @@ module _
       (x : c.Ghost) (before : Memory) (rest : SProp 𝓤) → Satisfies 𝓤 𝓛.H 𝓜 before (sep 𝓤 (c.pre x) rest)
       → ∥ ((steps : ℕ) × (v : Val) × (after : Memory) × (step (𝓡.env name) steps (c.args x) before ≡ done (v, after)) × Satisfies 𝓤 𝓛.H 𝓜 after (sep 𝓤 (c.post x v) rest)) ∥₁
 
+  -- Such an environment is there for each look-up that finds this code: the one that does what the look-up says.
+  abbrev pub IsThere : Type 0
+  IsThere = (look : Symbol → Entry) → Has look code → Wired (tie look) code
+
   ends_by : Stated → Ends
   ends_by met 𝓤 𝓛 𝓜 𝓡 wired =
       let alone = strict 𝓤 𝓛.H 𝓜 𝓡 in
@@ -93,9 +99,14 @@ module _
   pub record EndsOnAll : Type 2 where
     pub asks_nothing : AsksNothing
     pub ends : Ends
+    pub is_there : IsThere
 
   pub ends_on_all : AsksNothing → Stated → EndsOnAll
-  ends_on_all asks met = record { asks_nothing = asks; ends = ends_by met }
+  ends_on_all asks met = record {
+    asks_nothing = asks;
+    ends = ends_by met;
+    is_there = λ look has. Has-Wired look (tie look) (tie-Follows look) code has;
+  }
 
 -- each function that demand 1 covers
 pub record EveryCallEnds (M : Type 1) : Type 2 where

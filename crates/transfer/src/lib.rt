@@ -2,6 +2,7 @@
 #![tactic(auto)]
 
 ghost use Rattle.std.specs.Prelude.{◌≤◌, length, IfOk};
+ghost use Rattle.transfer.specs.Reason.{IsWithoutNumber};
 
 use std::io::{Cursor, ErrorKind, Read, Write};
 use std::{io, str};
@@ -76,7 +77,9 @@ pub fn write_all<W: Write>(output: &mut W, bytes: &[u8]) -> Put
 }
 
 // The text of an error ends in the number that the system has for it.
-fn without_number(text: &[u8]) -> &[u8] {
+fn without_number(text: &[u8]) -> &[u8]
+    ensures { IsWithoutNumber text.now result.now }
+{
     match str::from_utf8(text) {
         Ok(words) => match words.rsplit_once(" (os error ") {
             Some((reason, _)) => reason.as_bytes(),

@@ -2,9 +2,10 @@
 use mathlib.Core.Path.{◌≡◌, refl, sym, ap, ◌∙◌}
 use mathlib.Core.Bool.{Bool, true, false}
 use mathlib.Core.List.{List, [], ◌∷◌}
-use Prim.Native.Nat.{ℕ, ◌-◌}
+use Prim.Native.Nat.{ℕ, zero, suc, ◌-◌}
 use lib.IntN.{ℤ}
 use lib.ListN.{get_or}
+use Rattle.std.specs.Prelude.{Option, None, Some, Result, Ok, Err}
 use Rattle.rules.specs.declared.states.State.{State}
 use Rattle.rules.specs.declared.states.State.TheVariants.{Unpowered, Dormant, Operational, Maintenance}
 use Rattle.rules.specs.declared.states.TestResult.{TestResult}
@@ -19,14 +20,13 @@ use Rattle.rules.specs.declared.calls.Event.{Event}
 use Rattle.rules.specs.declared.calls.Event.TheVariants.{Measurement, PowerOn, PowerLoss, ContactorCommand, StateRequest, BattleOverride, ClearLongTerm}
 use Rattle.rules.specs.declared.stores.Entry.{Entry}
 use Rattle.rules.specs.declared.stores.Entry.TheVariants.{Trip, Release}
-use Rattle.rules.specs.declared.answers.ReadEvent.{ReadEvent}
-use Rattle.rules.specs.declared.answers.ReadEvent.TheVariants.{Found as FoundEvent, End as NoEvent, Refused as RefusedEvent}
-use Rattle.rules.specs.declared.answers.ReadEntry.{ReadEntry}
-use Rattle.rules.specs.declared.answers.ReadEntry.TheVariants.{Found as FoundEntry, End as NoEntry, Refused as RefusedEntry}
-use Rattle.rules.specs.declared.answers.Written.{Written}
-use Rattle.rules.specs.declared.answers.Written.TheVariants.{Bytes, Refused}
+use Rattle.rules.specs.declared.refusals.Refusal.{Refusal}
+use Rattle.rules.specs.declared.refusals.Refusal.TheVariants.{UnknownType, UnknownKind, CutShort, NotListed, Unsound, TimeBelowLast, TimeAboveMission, WrongPower, RequestNotAllowed, OtherNotAllowed, NoRoom, TooManyEvents, TooFewAnswers}
+use Rattle.rules.specs.declared.answers.Unreadable.{Unreadable}
+use Rattle.rules.specs.declared.answers.Fresh.{Fresh}
+use Rattle.rules.specs.declared.battery.Record.{Record}
 use Rattle.rules.specs.Quantities.{ms}
-use Rattle.rules.specs.Numbers.{state_number, request_number, command_number, override_number, test_number, contactor_number, event_kind, event_values, entry_kind, entry_values, request_of, command_of, override_of, signed, unsigned, event_of, ReadAnswer, found, end, answer_of_read_event, answer_of_read_entry, WriteAnswer, bytes, answer_of_write}
+use Rattle.rules.specs.Numbers.{state_number, request_number, command_number, override_number, test_number, contactor_number, refusal_number, number_of, event_kind, event_values, entry_kind, entry_values, request_of, command_of, override_of, signed, unsigned, event_of, ReadAnswer, found, end, answer_of_read_event, answer_of_read_entry, WriteAnswer, bytes, answer_of_write, answer_of_fresh, Outcome, outcome_of}
 use Rattle.rules.specs.Numbers.{WriteAnswer.refused as not_written}
 
 -- a map that can be undone takes no two for one
@@ -91,6 +91,69 @@ contactor_of_lem IsClosed = refl
 pub contactor_injective : (a b : Contactor) → contactor_number a ≡ contactor_number b → a ≡ b
 contactor_injective = injective contactor_number contactor_of contactor_of_lem
 
+-- ---- refusals: the case of a number, the first for 0
+
+abbrev refusal_of : ℕ → Refusal
+refusal_of n =
+    get_or
+    (UnknownType
+    ∷ UnknownType
+    ∷ UnknownKind
+    ∷ CutShort
+    ∷ NotListed
+    ∷ Unsound
+    ∷ TimeBelowLast
+    ∷ TimeAboveMission
+    ∷ WrongPower
+    ∷ RequestNotAllowed
+    ∷ OtherNotAllowed
+    ∷ NoRoom
+    ∷ TooManyEvents
+    ∷ TooFewAnswers
+    ∷ []) n UnknownType
+
+refusal_of_lem : (r : Refusal) → refusal_of (refusal_number r) ≡ r
+refusal_of_lem UnknownType = refl
+refusal_of_lem UnknownKind = refl
+refusal_of_lem CutShort = refl
+refusal_of_lem NotListed = refl
+refusal_of_lem Unsound = refl
+refusal_of_lem TimeBelowLast = refl
+refusal_of_lem TimeAboveMission = refl
+refusal_of_lem WrongPower = refl
+refusal_of_lem RequestNotAllowed = refl
+refusal_of_lem OtherNotAllowed = refl
+refusal_of_lem NoRoom = refl
+refusal_of_lem TooManyEvents = refl
+refusal_of_lem TooFewAnswers = refl
+
+pub refusal_injective : (a b : Refusal) → refusal_number a ≡ refusal_number b → a ≡ b
+refusal_injective = injective refusal_number refusal_of refusal_of_lem
+
+-- 0 is the number of no refusal
+abbrev refused_as : ℕ → Option Refusal
+refused_as zero = None
+refused_as (suc n) = Some (refusal_of (suc n))
+
+refused_as_lem : (o : Option Refusal) → refused_as (number_of o) ≡ o
+refused_as_lem None = refl
+refused_as_lem (Some UnknownType) = refl
+refused_as_lem (Some UnknownKind) = refl
+refused_as_lem (Some CutShort) = refl
+refused_as_lem (Some NotListed) = refl
+refused_as_lem (Some Unsound) = refl
+refused_as_lem (Some TimeBelowLast) = refl
+refused_as_lem (Some TimeAboveMission) = refl
+refused_as_lem (Some WrongPower) = refl
+refused_as_lem (Some RequestNotAllowed) = refl
+refused_as_lem (Some OtherNotAllowed) = refl
+refused_as_lem (Some NoRoom) = refl
+refused_as_lem (Some TooManyEvents) = refl
+refused_as_lem (Some TooFewAnswers) = refl
+
+pub number_injective : (a b : Option Refusal) → number_of a ≡ number_of b → a ≡ b
+number_injective = injective number_of refused_as refused_as_lem
+
 -- ---- events and entries: from the kind and the values
 
 pub event_of_lem : (e : Event) → event_of (event_kind e) (event_values e) ≡ e
@@ -121,39 +184,68 @@ entry_injective a b k v = injective {B = ℕ × List ℤ} (λ e. (entry_kind e, 
 
 -- ---- what functions answer
 
-abbrev read_event_of : ReadAnswer → ReadEvent
-read_event_of (found kind values next) = FoundEvent (event_of kind values) next
-read_event_of end = NoEvent
-read_event_of (ReadAnswer.refused refusal position) = RefusedEvent refusal position
+-- what a reader answers, of values that a kind and its list give
+abbrev read_of : {T : Type 0} → (ℕ → List ℤ → T) → ReadAnswer → Result (Option (T × ℕ)) (Unreadable Refusal)
+read_of value_of (found kind values next) = Ok (Some (value_of kind values, next))
+read_of value_of end = Ok None
+read_of value_of (ReadAnswer.refused refusal position) = Err (record { refusal = refusal_of refusal; position = position })
 
-read_event_of_lem : (a : ReadEvent) → read_event_of (answer_of_read_event a) ≡ a
-read_event_of_lem (FoundEvent e next) = ap (λ (x : Event). FoundEvent x next) (event_of_lem e)
-read_event_of_lem NoEvent = refl
-read_event_of_lem (RefusedEvent refusal position) = refl
+read_event_of_lem : (a : Result (Option (Event × ℕ)) (Unreadable Refusal)) → read_of event_of (answer_of_read_event a) ≡ a
+read_event_of_lem (Ok (Some (e, next))) = ap (λ (x : Event). Ok (Some (x, next))) (event_of_lem e)
+read_event_of_lem (Ok None) = refl
+read_event_of_lem (Err u) = ap (λ (r : Refusal). Err (record { refusal = r; position = u.position })) (refusal_of_lem u.refusal)
 
-pub read_event_injective : (a b : ReadEvent) → answer_of_read_event a ≡ answer_of_read_event b → a ≡ b
-read_event_injective = injective answer_of_read_event read_event_of read_event_of_lem
+pub read_event_injective : (a b : Result (Option (Event × ℕ)) (Unreadable Refusal)) → answer_of_read_event a ≡ answer_of_read_event b → a ≡ b
+read_event_injective = injective answer_of_read_event (read_of event_of) read_event_of_lem
 
-abbrev read_entry_of : ReadAnswer → ReadEntry
-read_entry_of (found kind values next) = FoundEntry (entry_of kind values) next
-read_entry_of end = NoEntry
-read_entry_of (ReadAnswer.refused refusal position) = RefusedEntry refusal position
+read_entry_of_lem : (a : Result (Option (Entry × ℕ)) (Unreadable Refusal)) → read_of entry_of (answer_of_read_entry a) ≡ a
+read_entry_of_lem (Ok (Some (e, next))) = ap (λ (x : Entry). Ok (Some (x, next))) (entry_of_lem e)
+read_entry_of_lem (Ok None) = refl
+read_entry_of_lem (Err u) = ap (λ (r : Refusal). Err (record { refusal = r; position = u.position })) (refusal_of_lem u.refusal)
 
-read_entry_of_lem : (a : ReadEntry) → read_entry_of (answer_of_read_entry a) ≡ a
-read_entry_of_lem (FoundEntry e next) = ap (λ (x : Entry). FoundEntry x next) (entry_of_lem e)
-read_entry_of_lem NoEntry = refl
-read_entry_of_lem (RefusedEntry refusal position) = refl
+pub read_entry_injective : (a b : Result (Option (Entry × ℕ)) (Unreadable Refusal)) → answer_of_read_entry a ≡ answer_of_read_entry b → a ≡ b
+read_entry_injective = injective answer_of_read_entry (read_of entry_of) read_entry_of_lem
 
-pub read_entry_injective : (a b : ReadEntry) → answer_of_read_entry a ≡ answer_of_read_entry b → a ≡ b
-read_entry_injective = injective answer_of_read_entry read_entry_of read_entry_of_lem
+abbrev written_of : WriteAnswer → Result ℕ Refusal
+written_of (bytes count) = Ok count
+written_of (not_written refusal) = Err (refusal_of refusal)
 
-abbrev written_of : WriteAnswer → Written
-written_of (bytes count) = Bytes count
-written_of (not_written refusal) = Refused refusal
+written_of_lem : (a : Result ℕ Refusal) → written_of (answer_of_write a) ≡ a
+written_of_lem (Ok count) = refl
+written_of_lem (Err refusal) = ap (λ (r : Refusal). Err r) (refusal_of_lem refusal)
 
-written_of_lem : (a : Written) → written_of (answer_of_write a) ≡ a
-written_of_lem (Bytes count) = refl
-written_of_lem (Refused refusal) = refl
-
-pub write_injective : (a b : Written) → answer_of_write a ≡ answer_of_write b → a ≡ b
+pub write_injective : (a b : Result ℕ Refusal) → answer_of_write a ≡ answer_of_write b → a ≡ b
 write_injective = injective answer_of_write written_of written_of_lem
+
+pub fresh_injective : (a b : Fresh) → answer_of_fresh a ≡ answer_of_fresh b → a ≡ b
+fresh_injective =
+    injective answer_of_fresh
+    (λ f. record { refusal = refused_as f.refusal; start = f.start })
+    (λ f. ap (λ (o : Option Refusal). record { refusal = o; start = f.start }) (refused_as_lem f.refusal))
+
+-- of a call on one record
+abbrev called_of : Outcome → Result Record Refusal
+called_of o = go (refused_as o.refusal)
+  where
+    go : Option Refusal → Result Record Refusal
+    go None = Ok o.after
+    go (Some refusal) = Err refusal
+
+called_of_lem : (before : Record) (a : Result Record Refusal) → called_of (outcome_of before a) ≡ a
+called_of_lem before (Ok after) = refl
+called_of_lem before (Err UnknownType) = refl
+called_of_lem before (Err UnknownKind) = refl
+called_of_lem before (Err CutShort) = refl
+called_of_lem before (Err NotListed) = refl
+called_of_lem before (Err Unsound) = refl
+called_of_lem before (Err TimeBelowLast) = refl
+called_of_lem before (Err TimeAboveMission) = refl
+called_of_lem before (Err WrongPower) = refl
+called_of_lem before (Err RequestNotAllowed) = refl
+called_of_lem before (Err OtherNotAllowed) = refl
+called_of_lem before (Err NoRoom) = refl
+called_of_lem before (Err TooManyEvents) = refl
+called_of_lem before (Err TooFewAnswers) = refl
+
+pub outcome_injective : (before : Record) (a b : Result Record Refusal) → outcome_of before a ≡ outcome_of before b → a ≡ b
+outcome_injective before = injective (outcome_of before) called_of (called_of_lem before)

@@ -1,6 +1,6 @@
 -- The paper's number and values for every case of every enum that is an answer or is printed. Contracts and claims are stated through
 -- these; proofs/Injective has that none of them takes two cases for one.
-use Rattle.std.specs.Prelude.{ℕ, ◌-◌, Bool, true, false, List, [], ◌∷◌, ℤ, pos, nat_abs, get_or}
+use Rattle.std.specs.Prelude.{ℕ, ◌-◌, Bool, true, false, cond, ◌&&◌, leb, List, [], ◌∷◌, ℤ, pos, nat_abs, get_or, Option, None, Some, Result, Ok, Err}
 use Rattle.rules.specs.declared.sensors.Reading.{Reading}
 use Rattle.rules.specs.declared.states.State.{State}
 use Rattle.rules.specs.declared.states.State.TheVariants.{Unpowered, Dormant, Operational, Maintenance}
@@ -16,12 +16,11 @@ use Rattle.rules.specs.declared.calls.Event.{Event}
 use Rattle.rules.specs.declared.calls.Event.TheVariants.{Measurement, PowerOn, PowerLoss, ContactorCommand, StateRequest, BattleOverride, ClearLongTerm}
 use Rattle.rules.specs.declared.stores.Entry.{Entry}
 use Rattle.rules.specs.declared.stores.Entry.TheVariants.{Trip, Release}
-use Rattle.rules.specs.declared.answers.ReadEvent.{ReadEvent}
-use Rattle.rules.specs.declared.answers.ReadEvent.TheVariants.{Found as FoundEvent, End as NoEvent, Refused as RefusedEvent}
-use Rattle.rules.specs.declared.answers.ReadEntry.{ReadEntry}
-use Rattle.rules.specs.declared.answers.ReadEntry.TheVariants.{Found as FoundEntry, End as NoEntry, Refused as RefusedEntry}
-use Rattle.rules.specs.declared.answers.Written.{Written}
-use Rattle.rules.specs.declared.answers.Written.TheVariants.{Bytes, Refused}
+use Rattle.rules.specs.declared.refusals.Refusal.{Refusal}
+use Rattle.rules.specs.declared.refusals.Refusal.TheVariants.{UnknownType, UnknownKind, CutShort, NotListed, Unsound, TimeBelowLast, TimeAboveMission, WrongPower, RequestNotAllowed, OtherNotAllowed, NoRoom, TooManyEvents, TooFewAnswers}
+use Rattle.rules.specs.declared.answers.Unreadable.{Unreadable}
+use Rattle.rules.specs.declared.answers.Fresh.{Fresh}
+use Rattle.rules.specs.declared.battery.Record.{Record}
 use Rattle.rules.specs.Quantities.{mv, ma, ms, dc}
 
 -- ---- states and settings
@@ -60,6 +59,28 @@ test_number Failed = 2
 abbrev pub contactor_number : Contactor → ℕ
 contactor_number IsOpen = 0
 contactor_number IsClosed = 1
+
+-- ---- refusals: "Where each number is raised", and document 02's
+
+abbrev pub refusal_number : Refusal → ℕ
+refusal_number UnknownType = 1
+refusal_number UnknownKind = 2
+refusal_number CutShort = 3
+refusal_number NotListed = 4
+refusal_number Unsound = 5
+refusal_number TimeBelowLast = 6
+refusal_number TimeAboveMission = 7
+refusal_number WrongPower = 8
+refusal_number RequestNotAllowed = 9
+refusal_number OtherNotAllowed = 10
+refusal_number NoRoom = 11
+refusal_number TooManyEvents = 12
+refusal_number TooFewAnswers = 13
+
+-- 0 where nothing is refused
+abbrev pub number_of : Option Refusal → ℕ
+number_of None = 0
+number_of (Some refusal) = refusal_number refusal
 
 -- ---- events and entries: the kind, and the values of the body's fields in their order
 
@@ -121,6 +142,13 @@ command_of n = get_or (Automated ∷ Open ∷ ForceClosed ∷ []) n Automated
 abbrev pub override_of : ℕ → Bool
 override_of n = get_or (false ∷ true ∷ []) n false
 
+-- what a byte is read as: "last byte not in its list" is refused
+abbrev pub command_listed : ℕ → Result Command Refusal
+command_listed byte = cond (leb byte 2) (Ok (command_of byte)) (Err NotListed)
+
+abbrev pub request_listed : ℕ → Result Request Refusal
+request_listed byte = cond (leb 1 byte && leb byte 3) (Ok (request_of byte)) (Err NotListed)
+
 -- value k, and that of an unsigned field
 abbrev pub signed : List ℤ → ℕ → ℤ
 signed values k = get_or values k (pos 0)
@@ -168,21 +196,39 @@ pub data ReadAnswer : Type 0 where
   end : ReadAnswer
   refused : (refusal position : ℕ) → ReadAnswer
 
-abbrev pub answer_of_read_event : ReadEvent → ReadAnswer
-answer_of_read_event (FoundEvent e next) = found (event_kind e) (event_values e) next
-answer_of_read_event NoEvent = end
-answer_of_read_event (RefusedEvent refusal position) = refused refusal position
+abbrev pub answer_of_read_event : Result (Option (Event × ℕ)) (Unreadable Refusal) → ReadAnswer
+answer_of_read_event (Ok (Some (e, next))) = found (event_kind e) (event_values e) next
+answer_of_read_event (Ok None) = end
+answer_of_read_event (Err u) = refused (refusal_number u.refusal) u.position
 
-abbrev pub answer_of_read_entry : ReadEntry → ReadAnswer
-answer_of_read_entry (FoundEntry e next) = found (entry_kind e) (entry_values e) next
-answer_of_read_entry NoEntry = end
-answer_of_read_entry (RefusedEntry refusal position) = refused refusal position
+abbrev pub answer_of_read_entry : Result (Option (Entry × ℕ)) (Unreadable Refusal) → ReadAnswer
+answer_of_read_entry (Ok (Some (e, next))) = found (entry_kind e) (entry_values e) next
+answer_of_read_entry (Ok None) = end
+answer_of_read_entry (Err u) = refused (refusal_number u.refusal) u.position
 
 -- what a writer or an export answers: the number of bytes written, or a refusal
 pub data WriteAnswer : Type 0 where
   bytes : (count : ℕ) → WriteAnswer
   refused : (refusal : ℕ) → WriteAnswer
 
-abbrev pub answer_of_write : Written → WriteAnswer
-answer_of_write (Bytes n) = bytes n
-answer_of_write (Refused n) = refused n
+abbrev pub answer_of_write : Result ℕ Refusal → WriteAnswer
+answer_of_write (Ok n) = bytes n
+answer_of_write (Err refusal) = refused (refusal_number refusal)
+
+-- what a fresh record is answered with: the number of its type's refusal, 0 for none, and the record beside it
+pub record FreshAnswer : Type 0 where
+  pub refusal : ℕ
+  pub start : Record
+
+abbrev pub answer_of_fresh : Fresh → FreshAnswer
+answer_of_fresh f = record { refusal = number_of f.refusal; start = f.start }
+
+-- what a call is answered with: the number of its refusal, 0 for none, and the record that it leaves. "A refused call alters neither the
+-- record nor a lent byte": the caller's is the one before it.
+pub record Outcome : Type 0 where
+  pub refusal : ℕ
+  pub after : Record
+
+abbrev pub outcome_of : Record → Result Record Refusal → Outcome
+outcome_of before (Ok after) = record { refusal = 0; after = after }
+outcome_of before (Err refusal) = record { refusal = refusal_number refusal; after = before }

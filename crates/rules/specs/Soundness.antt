@@ -1,10 +1,9 @@
 -- Document 01, "Where each number is raised", its last paragraph: the record is unsound if one of these fails, and only then. Number 5 is
 -- for an unsound record.
-use Rattle.std.specs.Prelude.{ℕ, ◌*◌, ◌≤◌, ◌<◌, List, T, nat_abs, get_or}
+use Rattle.std.specs.Prelude.{ℕ, ◌*◌, ◌≤◌, ◌<◌, List, T, nat_abs, get_or, Option, None, Some}
 use Rattle.rules.specs.declared.units.Milliseconds.{Milliseconds}
 use Rattle.rules.specs.declared.units.Charge.{Charge}
-use Rattle.rules.specs.declared.session.Previous.{Previous}
-use Rattle.rules.specs.declared.session.Previous.TheVariants.{Nothing, Frame}
+use Rattle.rules.specs.declared.units.Milliamperes.{Milliamperes}
 use Rattle.rules.specs.declared.battery.Record.{Record}
 use Rattle.rules.specs.Quantities.{ma_ms, mission_time, is_type}
 use Rattle.rules.specs.Test.{greatest_current, current_in_range}
@@ -16,14 +15,18 @@ StartedBy last Idle = Unit {0}
 StartedBy last (Beyond start) = start.0 ≤ last.0
 StartedBy last (Within start) = start.0 ≤ last.0
 
+-- the last measurement, if it was plausible: its time and current
+abbrev pub Previous : Type 0
+Previous = Option (Milliseconds × Milliamperes)
+
 -- nor is the last measurement
 abbrev pub MeasuredBy : Milliseconds → Previous → Type 0
-MeasuredBy last Nothing = Unit {0}
-MeasuredBy last (Frame t i) = t.0 ≤ last.0
+MeasuredBy last None = Unit {0}
+MeasuredBy last (Some (t, i)) = t.0 ≤ last.0
 
 abbrev pub KeptInRange : Previous → Type 0
-KeptInRange Nothing = Unit {0}
-KeptInRange (Frame t i) = T (current_in_range i)
+KeptInRange None = Unit {0}
+KeptInRange (Some (t, i)) = T (current_in_range i)
 
 -- every counted protection number is at most 7
 abbrev pub ProtectionsBelow8 : ℕ → List ℕ → Type 0

@@ -1,42 +1,21 @@
-// What functions answer. A refusal is document 01's number for it; where a call is accepted, the number is 0.
+// What functions answer. A function that only tests answers `Option<Refusal>`, `None` where nothing is refused; one that gives a value
+// answers `Result`.
 use crate::battery::Record;
-use crate::calls::Event;
-use crate::stores::Entry;
+use crate::refusals::Refusal;
 
-// What reading an event at a position of a log finds: an event and the position after it; no byte left; or a refusal and the position
-// of the kind byte.
+// A reader can't go on: the refusal, and the position of the kind byte.
 #[derive(Clone, Copy)]
-pub enum ReadEvent {
-    Found(Event, usize),
-    End,
-    Refused(u8, usize),
+pub struct Unreadable<R> {
+    pub refusal: R,
+    pub position: usize,
 }
 
-// The same of a stored entry.
-#[derive(Clone, Copy)]
-pub enum ReadEntry {
-    Found(Entry, usize),
-    End,
-    Refused(u8, usize),
-}
+// What stands at a position of a log, and the position after it; `None` where no byte is left.
+pub type ReadResult<T> = Result<Option<(T, usize)>, Unreadable<Refusal>>;
 
-// How many bytes were written, or the refusal.
-#[derive(Clone, Copy)]
-pub enum Written {
-    Bytes(usize),
-    Refused(u8),
-}
-
-// A fresh record, with the refusal of its type.
+// A fresh record: document 01 has one beside the refusal of a type too.
 #[derive(Clone, Copy)]
 pub struct Fresh {
-    pub refusal: u8,
+    pub refusal: Option<Refusal>,
     pub start: Record,
-}
-
-// What a call leaves, with its refusal.
-#[derive(Clone, Copy)]
-pub struct Outcome {
-    pub refusal: u8,
-    pub after: Record,
 }

@@ -3,11 +3,7 @@ use crate::states::TestResult;
 use crate::units::{Milliamperes, Milliseconds};
 
 // The last measurement, if it was plausible: its time and current.
-#[derive(Clone, Copy)]
-pub enum Previous {
-    Nothing,
-    Frame(Milliseconds, Milliamperes),
-}
+pub type Previous = Option<(Milliseconds, Milliamperes)>;
 
 // Set by measurements; written anew by power on and power loss. Of the eight protections it has three masks, bit = number: those that are
 // tripped, those whose longest span that ends at the last measurement is a beyond span, and those for which it is a within span; and for

@@ -13,8 +13,8 @@ use Rattle.rules.specs.declared.states.State.{State}
 use Rattle.rules.specs.declared.states.State.TheVariants.{Unpowered, Dormant}
 use Rattle.rules.specs.declared.calls.Event.{Event}
 use Rattle.rules.specs.declared.calls.Event.TheVariants.{Measurement, PowerOn, PowerLoss, ContactorCommand, StateRequest, BattleOverride, ClearLongTerm}
-use Rattle.rules.specs.declared.session.Previous.{Previous}
-use Rattle.rules.specs.declared.session.Previous.TheVariants.{Nothing, Frame}
+use Rattle.rules.specs.Soundness.{Previous}
+use Rattle.std.specs.Prelude.{None, Some}
 use Rattle.rules.specs.declared.session.Watch.{Watch}
 use Rattle.rules.specs.declared.stores.Stores.{Stores}
 use Rattle.rules.specs.declared.battery.Live.{Live}
@@ -99,8 +99,8 @@ module _ (last t : Milliseconds) (k : last.0 ≤ t.0) where
   started_later (Within u) h = later u h
 
   measured_later : (p : Previous) → T (measured_by last p) → T (measured_by t p)
-  measured_later Nothing h = tt
-  measured_later (Frame u i) h = later u h
+  measured_later None h = tt
+  measured_later (Some (u, i)) h = later u h
 
   watch_later : (w : Watch) → Each T (watch_tests last w) → Each T (watch_tests t w)
   watch_later w (mask and measured and current and spans and none) =
@@ -130,11 +130,11 @@ module _ (battery : ℕ) (t : Milliseconds) (r : Reading) where
   one_started protection s =
       span_started (plausible r && (row_of battery protection).beyond r) (plausible r && (row_of battery protection).within r) t s.span
 
-  frame_measured : (b : Bool) → T (measured_by t (cond b (Frame t r.current) Nothing))
+  frame_measured : (b : Bool) → T (measured_by t (cond b (Some (t, r.current)) None))
   frame_measured true = now t
   frame_measured false = tt
 
-  frame_kept : (b : Bool) → plausible r ≡ b → T (current_kept (cond b (Frame t r.current) Nothing))
+  frame_kept : (b : Bool) → plausible r ≡ b → T (current_kept (cond b (Some (t, r.current)) None))
   frame_kept true e = plausible_current r (subst T (sym e) tt)
   frame_kept false e = tt
 

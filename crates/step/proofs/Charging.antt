@@ -11,8 +11,8 @@ use lib.ListN.{get_or}
 use Rattle.rules.specs.declared.units.Milliamperes.{Milliamperes}
 use Rattle.rules.specs.declared.units.Milliseconds.{Milliseconds}
 use Rattle.rules.specs.declared.sensors.Reading.{Reading}
-use Rattle.rules.specs.declared.session.Previous.{Previous}
-use Rattle.rules.specs.declared.session.Previous.TheVariants.{Nothing, Frame}
+use Rattle.rules.specs.Soundness.{Previous}
+use Rattle.std.specs.Prelude.{None, Some}
 use Rattle.rules.specs.Quantities.{ma, ma_ms, elapsed}
 use Rattle.rules.specs.Test.{plausible, current_in_range, in_range}
 use Rattle.rules.specs.Trips.{Measured, time}
@@ -26,15 +26,15 @@ use Rattle.step.proofs.Tracking.{AllBy}
 
 -- what the record keeps of the last measurement
 abbrev pub previous_of : List Measured → Previous
-previous_of [] = Nothing
-previous_of (m ∷ taken) = cond (plausible m.reading) (Frame m.at m.reading.current) Nothing
+previous_of [] = None
+previous_of (m ∷ taken) = cond (plausible m.reading) (Some (m.at, m.reading.current)) None
 
 pub increment_from_lem : (part : ℤ → ℕ) (taken : List Measured) (t : Milliseconds) (r : Reading)
     → increment_from part (previous_of taken) (plausible r) t r.current ≡ increment part taken (record { at = t; reading = r })
 increment_from_lem part [] t r = refl
 increment_from_lem part (m ∷ taken) t r = go (plausible m.reading) (plausible r)
   where
-    go : (a b : Bool) → increment_from part (cond a (Frame m.at m.reading.current) Nothing) b t r.current
+    go : (a b : Bool) → increment_from part (cond a (Some (m.at, m.reading.current)) None) b t r.current
         ≡ ma_ms (cond (a && b) (part (halved (flow m.reading.current r.current (elapsed m.at t)))) 0)
     go true b = refl
     go false b = refl

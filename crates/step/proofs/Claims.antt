@@ -7,7 +7,7 @@ use Prim.Native.Nat.{ℕ, zero, suc, ◌<◌}
 use lib.Dec.{T, leb}
 use Rattle.rules.specs.declared.calls.Event.{Event}
 use Rattle.rules.specs.declared.battery.Record.{Record}
-use Rattle.rules.specs.declared.answers.Fresh.{Fresh}
+use Rattle.rules.specs.Numbers.{FreshAnswer}
 use Rattle.rules.specs.Quantities.{is_type}
 use Rattle.rules.specs.Numbers.{state_number, command_number, override_number, contactor_number}
 use Rattle.rules.specs.Refusals.{first_of, fresh_checks, CallAnswer.unsound}
@@ -101,7 +101,7 @@ fresh_of_known battery h = rw (same_known battery, (is_true (is_type battery)).0
 fresh_is : (battery : ℕ) → fresh battery ≡ record { refusal = first_of (fresh_checks battery); start = fresh_record (type_or1 battery) }
 fresh_is battery = rw (same_known battery) (go (is_type battery))
   where
-    go : (b : Bool) → ◌≡◌ {A = Fresh} (cond b (record { refusal = 0; start = fresh_record battery }) (record { refusal = 1; start = fresh_record 1 }))
+    go : (b : Bool) → ◌≡◌ {A = FreshAnswer} (cond b (record { refusal = 0; start = fresh_record battery }) (record { refusal = 1; start = fresh_record 1 }))
         (record { refusal = cond (not b) 1 0; start = fresh_record (cond b battery 1) })
     go true = refl
     go false = refl
@@ -115,19 +115,19 @@ known_or_1 battery = go (is_type battery) refl
 
 -- the step's fresh records
 abbrev pub StepStarts : Starter
-StepStarts battery given start = ◌≡◌ {A = Fresh} (record { refusal = given; start = start }) (fresh battery)
+StepStarts battery given start = ◌≡◌ {A = FreshAnswer} (record { refusal = given; start = start }) (fresh battery)
 
 pub of_every_type : OfEveryType StepStarts
 unfolding closes
 of_every_type battery given start starts = record {
-  refusal = ap (λ (f : Fresh). f.refusal) (starts ∙ fresh_is battery);
+  refusal = ap (λ (f : FreshAnswer). f.refusal) (starts ∙ fresh_is battery);
   empty = rw same (after_list (type_or1 battery) (known_or_1 battery) []);
   of_its_type = rw same (sym (fresh_of_known (type_or1 battery) (known_or_1 battery)));
-  no_other = λ given₁ start₁ starts₁. ap (λ (f : Fresh). f.start) (starts₁ ∙ fresh_of_known (type_or1 battery) (known_or_1 battery)) ∙ sym same;
+  no_other = λ given₁ start₁ starts₁. ap (λ (f : FreshAnswer). f.start) (starts₁ ∙ fresh_of_known (type_or1 battery) (known_or_1 battery)) ∙ sym same;
 }
   where
     same : start ≡ fresh_record (type_or1 battery)
-    same = ap (λ (f : Fresh). f.start) (starts ∙ fresh_is battery)
+    same = ap (λ (f : FreshAnswer). f.start) (starts ∙ fresh_is battery)
 
 -- ---- the claims
 

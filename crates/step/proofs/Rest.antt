@@ -5,7 +5,7 @@ use mathlib.Core.Bool.{Bool}
 use mathlib.Core.List.{List, [], ◌∷◌}
 use Rattle.rules.specs.declared.calls.Event.{Event}
 use Rattle.rules.specs.declared.battery.Record.{Record}
-use Rattle.rules.specs.declared.answers.Outcome.{Outcome}
+use Rattle.rules.specs.Numbers.{Outcome}
 use Rattle.step.specs.Sound.{sound_rest}
 use Rattle.step.specs.Refusal.{refusal, refusal_tested}
 use Rattle.step.specs.Call.{call, run}

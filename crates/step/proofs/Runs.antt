@@ -6,7 +6,7 @@ use Prim.Native.Nat.{ℕ, zero, suc, ◌≤◌, ◌<◌}
 use native.Mathlib.Omega.{arith}
 use lib.Dec.{T}
 use Rattle.rules.specs.declared.units.Milliseconds.{Milliseconds}
-use Rattle.rules.specs.declared.session.Previous.TheVariants.{Nothing, Frame}
+use Rattle.std.specs.Prelude.{None, Some}
 use Rattle.rules.specs.declared.states.State.{State}
 use Rattle.rules.specs.declared.calls.Event.{Event}
 use Rattle.rules.specs.declared.calls.Event.TheVariants.{Measurement, PowerOn, PowerLoss, ContactorCommand, StateRequest, BattleOverride, ClearLongTerm}
@@ -40,7 +40,7 @@ previous_by_lem : (last : Milliseconds) (taken : List Measured) → AllBy last.0
 previous_by_lem last [] h = tt
 previous_by_lem last (m ∷ taken) h = go (plausible m.reading)
   where
-    go : (b : Bool) → MeasuredBy last (cond b (Frame m.at m.reading.current) Nothing)
+    go : (b : Bool) → MeasuredBy last (cond b (Some (m.at, m.reading.current)) None)
     go true = h.0
     go false = tt
 
@@ -48,7 +48,7 @@ previous_kept : (taken : List Measured) → KeptInRange (previous_of taken)
 previous_kept [] = tt
 previous_kept (m ∷ taken) = go (plausible m.reading) refl
   where
-    go : (b : Bool) → plausible m.reading ≡ b → KeptInRange (cond b (Frame m.at m.reading.current) Nothing)
+    go : (b : Bool) → plausible m.reading ≡ b → KeptInRange (cond b (Some (m.at, m.reading.current)) None)
     go true e = plausible_current m.reading (subst T (sym e) tt)
     go false e = tt
 

@@ -11,8 +11,8 @@ use lib.Dec.{T, leb, eqb, leb→le, le→leb, ltb→lt, lt→ltb, eqb→eq}
 use lib.ListN.{get_or}
 use Rattle.rules.specs.declared.units.Milliseconds.{Milliseconds}
 use Rattle.rules.specs.declared.units.Charge.{Charge}
-use Rattle.rules.specs.declared.session.Previous.{Previous}
-use Rattle.rules.specs.declared.session.Previous.TheVariants.{Nothing, Frame}
+use Rattle.rules.specs.Soundness.{Previous}
+use Rattle.std.specs.Prelude.{None, Some}
 use Rattle.rules.specs.declared.battery.Record.{Record}
 use Rattle.rules.specs.Quantities.{is_type}
 use Rattle.rules.specs.Shown.{Span, Idle, Beyond, Within, kept_of, kept_at}
@@ -70,12 +70,12 @@ started_is last (Beyond u) = (leb→le _ _, le→leb _ _)
 started_is last (Within u) = (leb→le _ _, le→leb _ _)
 
 measured_is : (last : Milliseconds) (p : Previous) → T (measured_by last p) ↔ MeasuredBy last p
-measured_is last Nothing = (λ h. tt, λ h. tt)
-measured_is last (Frame t i) = (leb→le _ _, le→leb _ _)
+measured_is last None = (λ h. tt, λ h. tt)
+measured_is last (Some (t, i)) = (leb→le _ _, le→leb _ _)
 
 kept_is : (p : Previous) → T (current_kept p) ↔ KeptInRange p
-kept_is Nothing = (λ h. tt, λ h. tt)
-kept_is (Frame t i) = (λ h. h, λ h. h)
+kept_is None = (λ h. tt, λ h. tt)
+kept_is (Some (t, i)) = (λ h. h, λ h. h)
 
 -- ---- the record
 

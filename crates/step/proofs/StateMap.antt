@@ -4,8 +4,8 @@ use mathlib.Core.Bool.{Bool, true, false, cond, and-false}
 use Prim.Native.Nat.{ℕ, ◌≤◌}
 use native.Mathlib.Omega.{arith}
 use Rattle.rules.specs.declared.units.Milliseconds.{Milliseconds}
-use Rattle.rules.specs.declared.session.Previous.{Previous}
-use Rattle.rules.specs.declared.session.Previous.TheVariants.{Nothing, Frame}
+use Rattle.rules.specs.Soundness.{Previous}
+use Rattle.std.specs.Prelude.{None, Some}
 use Rattle.rules.specs.declared.states.State.TheVariants.{Dormant, Maintenance}
 use Rattle.rules.specs.declared.states.Contactor.{Contactor}
 use Rattle.rules.specs.declared.calls.Request.{Request}
@@ -39,8 +39,8 @@ started_later (Beyond start) last t h by = omega (arith, h, by)
 started_later (Within start) last t h by = omega (arith, h, by)
 
 measured_later : (p : Previous) (last t : Milliseconds) → last.0 ≤ t.0 → MeasuredBy last p → MeasuredBy t p
-measured_later Nothing last t h by = tt
-measured_later (Frame at i) last t h by = omega (arith, h, by)
+measured_later None last t h by = tt
+measured_later (Some (at, i)) last t h by = omega (arith, h, by)
 
 module _ (r : Record) (t : Milliseconds) (q : Request) where
   pub request_sound : Sound r → InTime r.live.last t → Sound (advance r (StateRequest t q))

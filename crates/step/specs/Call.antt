@@ -16,7 +16,7 @@ use Rattle.rules.specs.declared.stores.LongTerm.{LongTerm}
 use Rattle.rules.specs.declared.stores.ShortTerm.{ShortTerm}
 use Rattle.rules.specs.declared.stores.Stores.{Stores}
 use Rattle.rules.specs.declared.battery.Record.{Record}
-use Rattle.rules.specs.declared.answers.Outcome.{Outcome}
+use Rattle.rules.specs.Numbers.{Outcome}
 use Rattle.rules.specs.States.{requested, is_change, enters_dormant}
 use Rattle.rules.specs.Test.{plausible}
 use Rattle.step.specs.Fresh.{no_watch, control_in, no_short_term, no_long_term}

@@ -4,14 +4,14 @@ use Rattle.rules.specs.declared.states.State.{State}
 use Rattle.rules.specs.declared.states.State.TheVariants.{Unpowered}
 use Rattle.rules.specs.declared.states.TestResult.TheVariants.{NotRun}
 use Rattle.rules.specs.declared.calls.Command.TheVariants.{Automated}
-use Rattle.rules.specs.declared.session.Previous.TheVariants.{Nothing}
+use Rattle.std.specs.Prelude.{None}
 use Rattle.rules.specs.declared.session.Watch.{Watch}
 use Rattle.rules.specs.declared.stores.LongTerm.{LongTerm}
 use Rattle.rules.specs.declared.stores.ShortTerm.{ShortTerm}
 use Rattle.rules.specs.declared.battery.Control.{Control}
 use Rattle.rules.specs.declared.battery.Tally.{Tally}
 use Rattle.rules.specs.declared.battery.Record.{Record}
-use Rattle.rules.specs.declared.answers.Fresh.{Fresh}
+use Rattle.rules.specs.Numbers.{FreshAnswer}
 
 abbrev pub no_watch : Watch
 no_watch = record {
@@ -21,7 +21,7 @@ no_watch = record {
   within = 0;
   mask = 0;
   failed = 0;
-  previous = Nothing;
+  previous = None;
   since = replicate 8 (record { 0 = 0 });
 }
 
@@ -50,5 +50,5 @@ fresh_record battery = record {
 }
 
 -- a number for any other type, beside the fresh record of type 1
-abbrev pub fresh : ℕ → Fresh
+abbrev pub fresh : ℕ → FreshAnswer
 fresh battery = cond (leb 1 battery && leb battery 3) (record { refusal = 0; start = fresh_record battery }) (record { refusal = 1; start = fresh_record 1 })

@@ -1,8 +1,8 @@
 -- Soundness of a record as a test that computes.
 use Rattle.std.specs.Prelude.{ℕ, zero, suc, Bool, true, ◌&&◌, List, [], ◌∷◌, leb, ltb, get_or}
 use Rattle.rules.specs.declared.units.Milliseconds.{Milliseconds}
-use Rattle.rules.specs.declared.session.Previous.{Previous}
-use Rattle.rules.specs.declared.session.Previous.TheVariants.{Nothing, Frame}
+use Rattle.rules.specs.Soundness.{Previous}
+use Rattle.std.specs.Prelude.{None, Some}
 use Rattle.rules.specs.declared.session.Watch.{Watch}
 use Rattle.rules.specs.declared.stores.Stores.{Stores}
 use Rattle.rules.specs.declared.battery.Live.{Live}
@@ -19,12 +19,12 @@ started_by last (Beyond start) = start ≤ms last
 started_by last (Within start) = start ≤ms last
 
 abbrev pub measured_by : Milliseconds → Previous → Bool
-measured_by last Nothing = true
-measured_by last (Frame t i) = t ≤ms last
+measured_by last None = true
+measured_by last (Some (t, i)) = t ≤ms last
 
 abbrev pub current_kept : Previous → Bool
-current_kept Nothing = true
-current_kept (Frame t i) = current_in_range i
+current_kept None = true
+current_kept (Some (t, i)) = current_in_range i
 
 -- the protections in the first places are at most 7
 abbrev pub below8 : ℕ → List ℕ → Bool

@@ -5,8 +5,8 @@ use Rattle.rules.specs.declared.units.Milliamperes.{Milliamperes}
 use Rattle.rules.specs.declared.units.Milliseconds.{Milliseconds}
 use Rattle.rules.specs.declared.sensors.Reading.{Reading}
 use Rattle.rules.specs.declared.states.TestResult.TheVariants.{Passed, Failed}
-use Rattle.rules.specs.declared.session.Previous.{Previous}
-use Rattle.rules.specs.declared.session.Previous.TheVariants.{Nothing, Frame}
+use Rattle.rules.specs.Soundness.{Previous}
+use Rattle.std.specs.Prelude.{None, Some}
 use Rattle.rules.specs.declared.session.Watch.{Watch}
 use Rattle.rules.specs.Test.{plausible, failed_mask, failed_count}
 use Rattle.rules.specs.Quantities.{ms}
@@ -84,7 +84,7 @@ track_all battery t r w = keeping (λ protection. track_one (row_of battery prot
 
 -- the last measurement, if it is plausible
 abbrev pub previous_by : Bool → Milliseconds → Milliamperes → Previous
-previous_by plausible t i = cond plausible (Frame t i) Nothing
+previous_by plausible t i = cond plausible (Some (t, i)) None
 
 -- what is watched, with a measurement's own part written anew: its test, its failed sensors, its time and current
 abbrev pub testing : Milliseconds → Reading → Watch → Watch

@@ -7,7 +7,7 @@ use crate::stores::Stores;
 use crate::units::{Charge, Milliseconds};
 
 // Set by commands; written anew by power on and power loss.
-#[derive(Clone, Copy)]
+#[derive(Clone, Copy, PartialEq, Eq)]
 pub struct Control {
     pub state: State,
     pub command: Command,
@@ -15,7 +15,7 @@ pub struct Control {
 }
 
 // Survives a power loss.
-#[derive(Clone, Copy)]
+#[derive(Clone, Copy, PartialEq, Eq)]
 pub struct Tally {
     pub commands: u32,
     pub charged: Charge,
@@ -23,7 +23,7 @@ pub struct Tally {
 }
 
 // The last time leads, and the battery type and the control fill the eight bytes up, so that no field stands behind a gap.
-#[derive(Clone, Copy)]
+#[derive(Clone, Copy, PartialEq, Eq)]
 pub struct Live {
     pub last: Milliseconds,
     pub battery: u8,
@@ -32,7 +32,7 @@ pub struct Live {
     pub tally: Tally,
 }
 
-#[derive(Clone, Copy)]
+#[derive(Clone, Copy, PartialEq, Eq)]
 pub struct Record {
     pub live: Live,
     pub stores: Stores,

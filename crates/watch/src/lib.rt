@@ -27,10 +27,7 @@ pub struct Seen {
 fn previous_of(plausible: bool, t: Milliseconds, i: Milliamperes) -> Previous
     ensures { result ≡ previous_by plausible t i }
 {
-    if plausible {
-        return Previous::Frame(t, i);
-    }
-    Previous::Nothing
+    if plausible { Some((t, i)) } else { None }
 }
 
 fn test_of(plausible: bool) -> TestResult
@@ -93,7 +90,7 @@ fn settled(w: Watch) -> bool
 fn stay(t: Milliseconds, i: Milliamperes, w: Watch) -> Watch
     ensures { result ≡ shown_with calm_seen t i (kept_by w) }
 {
-    let previous = Previous::Frame(t, i);
+    let previous = Some((t, i));
     Watch {
         test: TestResult::Passed,
         mask: 0,

@@ -16,15 +16,15 @@ fn started_by(running: u8, weight: u8, last: Milliseconds, start: Milliseconds) 
     requires { 0 < weight }
     ensures { result ≡ not (eqb (running / weight % 2) 1) || (start ≤ms last) }
 {
-    !(running / weight % 2 == 1) | (start.0 <= last.0)
+    !(running / weight % 2 == 1) | (start <= last)
 }
 
 fn measured_by(last: Milliseconds, p: Previous) -> bool
     ensures { result ≡ measured_by last p }
 {
     match p {
-        Previous::Nothing => true,
-        Previous::Frame(t, _) => t.0 <= last.0,
+        None => true,
+        Some((t, _)) => t <= last,
     }
 }
 
@@ -32,8 +32,8 @@ fn current_kept(p: Previous) -> bool
     ensures { result ≡ current_kept p }
 {
     match p {
-        Previous::Nothing => true,
-        Previous::Frame(_, i) => (LEAST_CURRENT.0 <= i.0) & (i.0 <= GREATEST_CURRENT.0),
+        None => true,
+        Some((_, i)) => (LEAST_CURRENT <= i) & (i <= GREATEST_CURRENT),
     }
 }
 

@@ -7,9 +7,8 @@ use native.Mathlib.Nat.{not-suc-le-zero}
 use native.Mathlib.Omega.{arith}
 use borrow.Author.Tests.{ltb-true, ltb-false, lt-ltb, le-ltb}
 use lib.Dec.{ltb}
-use lib.ListN.{length, take, drop, set, get_or, length-append, length-set, take-append-drop}
-use lib.Seq.{take-suc, set_at, length-take-le}
-use Rattle.rules.specs.Bytes.{overwritten}
+use lib.ListN.{length, take, set, get_or, length-append}
+use lib.Seq.{take-suc, set_at, length-take-le, take-length}
 use Rattle.rules.specs.Text.{digit, decimal}
 use Rattle.rules.proofs.Decimals.{decimal_small, decimal_large}
 
@@ -71,49 +70,34 @@ low_all (suc k) n e = go (ltb n 10) refl (low_all k (n / 10))
 
 -- ---- written from the last on
 
-module _ (n k at : ℕ) (before : List ℕ) where
+module _ (n : ℕ) (before : List ℕ) where
   -- with i digits still to write, those of `rest`
   pub record Spelled (i rest : ℕ) (out : List ℕ) : Type 0 where
     pub done : List ℕ
-    pub below : i ≤ k
-    pub digits : low_digits k n ≡ low_digits i rest ++ done
-    pub contents : out ≡ take (at + i) before ++ (done ++ drop (at + k) before)
-    pub same : length out ≡ length before
+    pub digits : low_digits (length before) n ≡ low_digits i rest ++ done
+    pub contents : out ≡ take i before ++ done
 
-  pub spelled_none : Spelled k n before
+  pub spelled_none : Spelled (length before) n before
   spelled_none = record {
     done = [];
-    below = omega arith;
-    digits = sym (append-nil (low_digits k n));
-    contents = sym (take-append-drop (at + k) before);
-    same = refl;
+    digits = sym (append-nil (low_digits (length before) n));
+    contents = sym (append-nil before) ∙ ap (λ (l : List ℕ). l ++ []) (sym (take-length before));
   }
 
-  module _ (room : at + k ≤ length before) where
-    one_more : (j rest : ℕ) (out : List ℕ) → Spelled (suc j) rest out → Spelled j (rest / 10) (set out (at + j) (48 + rest % 10))
-    one_more j rest out s =
-        let split : take (at + suc j) before ≡ take (at + j) before ++ (get_or before (at + j) 0 ∷ []) = rw (step) (take-suc before (at + j) 0 (omega (arith, s.below, room))) in
-        record {
-          done = digit (rest % 10) ∷ s.done;
-          below = omega (arith, s.below);
-          digits = s.digits ∙ append_assoc (low_digits j (rest / 10)) (digit (rest % 10) ∷ []) s.done;
-          contents =
-              ap (λ (o : List ℕ). set o (at + j) (48 + rest % 10)) (s.contents ∙ ap (λ (f : List ℕ). f ++ (s.done ++ drop (at + k) before)) split ∙ append_assoc (take (at + j) before) (get_or before (at + j) 0 ∷ []) (s.done ++ drop (at + k) before))
-              ∙ set_at (take (at + j) before) (get_or before (at + j) 0) (s.done ++ drop (at + k) before) (48 + rest % 10) (at + j) (length-take-le (at + j) before (omega (arith, s.below, room)))
-              ∙ ap (λ (d : ℕ). take (at + j) before ++ d ∷ (s.done ++ drop (at + k) before)) (sym (digit_small (rest % 10) (omega arith)));
-          same = length-set out (at + j) (48 + rest % 10) ∙ s.same;
-        }
-      where
-        step : at + suc j ≡ suc (at + j)
-        step = omega arith
+  one_more : (i rest : ℕ) (out : List ℕ) → suc i ≤ length before → Spelled (suc i) rest out → Spelled i (rest / 10) (set out i (48 + rest % 10))
+  one_more i rest out room s = record {
+    done = digit (rest % 10) ∷ s.done;
+    digits = s.digits ∙ append_assoc (low_digits i (rest / 10)) (digit (rest % 10) ∷ []) s.done;
+    contents =
+        ap (λ (o : List ℕ). set o i (48 + rest % 10)) (s.contents ∙ ap (λ (f : List ℕ). f ++ s.done) (take-suc before i 0 (omega arith)) ∙ append_assoc (take i before) (get_or before i 0 ∷ []) s.done)
+        ∙ set_at (take i before) (get_or before i 0) s.done (48 + rest % 10) i (length-take-le i before (omega arith))
+        ∙ ap (λ (d : ℕ). take i before ++ d ∷ s.done) (sym (digit_small (rest % 10) (omega arith)));
+  }
 
-    pub spelled_more : (i rest : ℕ) (out : List ℕ) → 0 < i → Spelled i rest out → Spelled (i - 1) (rest / 10) (set out (at + (i - 1)) (48 + rest % 10))
-    spelled_more zero rest out h s = absurd (not-suc-le-zero h)
-    spelled_more (suc j) rest out h s = let is : suc j - 1 ≡ j = omega arith in rw is (one_more j rest out s)
+  pub spelled_more : (i rest : ℕ) (out : List ℕ) → 0 < i → i ≤ length before → Spelled i rest out → Spelled (i - 1) (rest / 10) (set out (i - 1) (48 + rest % 10))
+  spelled_more zero rest out h room s = absurd (not-suc-le-zero h)
+  spelled_more (suc i) rest out h room s = let is : suc i - 1 ≡ i = omega arith in rw is (one_more i rest out room s)
 
-    pub spelled_all : (i rest : ℕ) (out : List ℕ) → k ≡ length (decimal n) → (0 < i → ⊥) → Spelled i rest out → out ≡ overwritten before at (decimal n)
-    spelled_all zero rest out size h s =
-        let whole : decimal n ≡ s.done = sym (low_all k n size) ∙ s.digits in
-        let start : at + 0 ≡ at = omega arith in
-        s.contents ∙ rw (start, ← whole, size) refl
-    spelled_all (suc i) rest out size h s = absurd (h (omega arith))
+  pub spelled_all : (i rest : ℕ) (out : List ℕ) → length before ≡ length (decimal n) → i ≤ 0 → Spelled i rest out → out ≡ decimal n
+  spelled_all zero rest out size h s = s.contents ∙ sym s.digits ∙ low_all (length before) n size
+  spelled_all (suc i) rest out size h s = absurd (omega (arith, h))

@@ -11,8 +11,10 @@ const MOST: usize = 20;
 
 // How many decimal digits a number has.
 fn places(n: u64) -> usize
-    ensures { result ≡ length (decimal n) }
+    ensures value { result ≡ length (decimal n) }
+    ensures upper_bound { result ≤ 20 }
 {
+    // Kept: a `while`, since today's numbers have no `ilog10`, and no other method that counts digits.
     let mut k = 1;
     let mut rest = n / 10;
     while 0 < rest {
@@ -22,16 +24,15 @@ fn places(n: u64) -> usize
     k
 }
 
-// Writes a number of that many digits from a position on, the last digit first.
-fn spell(n: u64, k: usize, out: &mut [u8], at: usize)
-    requires { (k ≡ length (decimal n)) × (at + k ≤ length out.old) }
-    ensures { out.new ≡ overwritten out.old at (decimal n) }
+// Fills a slice with the digits of a number that has as many, the last digit first.
+fn spell(n: u64, digits: &mut [u8])
+    requires { length digits.old ≡ length (decimal n) }
+    ensures { digits.new ≡ decimal n }
 {
-    let mut i = k;
     let mut rest = n;
-    while 0 < i {
-        i -= 1;
-        out[at + i] = 48 + (rest % 10) as u8;
+    // Kept: an index; over `iter_mut().rev()` an invariant has no name for what is written.
+    for i in (0..digits.len()).rev() {
+        digits[i] = b'0' + (rest % 10) as u8;
         rest /= 10;
     }
 }
@@ -42,15 +43,12 @@ pub fn put_decimal(n: u64, out: &mut [u8], at: usize) -> usize
     ensures value { (result ≡ at + length (decimal_at n at (length out.old))) × (result ≤ at + 20) }
     ensures out_after { out.new ≡ overwritten out.old at (decimal_at n at (length out.old)) }
 {
-    if out.len() < MOST {
+    if out.len() < MOST || out.len() - MOST < at {
         return at;
     }
-    if out.len() - MOST < at {
-        return at;
-    }
-    let k = places(n);
-    spell(n, k, out, at);
-    at + k
+    let end = at + places(n);
+    spell(n, &mut out[at..end]);
+    end
 }
 
 // A hex digit, in lower case.
@@ -58,7 +56,10 @@ fn hex_digit(d: u8) -> u8
     requires { d < 16 }
     ensures { result ≡ digit_of d }
 {
-    if d < 10 { 48 + d } else { 87 + d }
+    match d {
+        0..=9 => b'0' + d,
+        _ => b'a' + (d - 10),
+    }
 }
 
 // A byte in two hex digits. Most masks are 0.
@@ -66,7 +67,7 @@ pub fn hex_pair(n: u8) -> [u8; 2]
     ensures { result ≡ hex_pair n }
 {
     if n == 0 {
-        return [48, 48];
+        return [b'0', b'0'];
     }
     [hex_digit(n / 16), hex_digit(n % 16)]
 }

@@ -2,35 +2,20 @@
 #![tactic(auto)]
 
 ghost use Rattle.std.specs.Prelude.{◌≡◌};
+ghost use Rattle.rules.specs.Numbers.{number_of};
 ghost use Rattle.rules.specs.Refusals.{first_of};
 ghost use Rattle.request_refusal.specs.Rows.{request_checks};
 
 use rules::calls::Request;
-use rules::refusals::{REQUEST_NOT_ALLOWED, WRONG_POWER};
+use rules::refusals::Refusal;
 use rules::states::State;
 
-// 0 for a request that is not refused.
-pub fn at_request(q: Request, s: State) -> u8
-    ensures { result ≡ first_of (request_checks s q) }
+pub fn at_request(q: Request, s: State) -> Option<Refusal>
+    ensures { number_of result ≡ first_of (request_checks s q) }
 {
-    match q {
-        Request::Dormant => match s {
-            State::Unpowered => WRONG_POWER, // 8 comes before 9
-            State::Dormant => 0,
-            State::Operational => 0,
-            State::Maintenance => 0, // document 02, S-3
-        },
-        Request::Operational => match s {
-            State::Unpowered => WRONG_POWER,
-            State::Dormant => 0,
-            State::Operational => 0,
-            State::Maintenance => 0,
-        },
-        Request::Maintenance => match s {
-            State::Unpowered => WRONG_POWER,
-            State::Dormant => REQUEST_NOT_ALLOWED,
-            State::Operational => 0,
-            State::Maintenance => 0,
-        },
+    match (q, s) {
+        (_, State::Unpowered) => Some(Refusal::WrongPower), // 8 comes before 9
+        (Request::Maintenance, State::Dormant) => Some(Refusal::RequestNotAllowed),
+        _ => None, // document 02, S-3: from Maintenance to Dormant too
     }
 }

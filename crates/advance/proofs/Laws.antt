@@ -9,8 +9,8 @@ use Rattle.rules.specs.declared.units.Milliseconds.{Milliseconds}
 use Rattle.rules.specs.declared.units.Charge.{Charge}
 use Rattle.rules.specs.declared.sensors.Reading.{Reading}
 use Rattle.rules.specs.declared.states.TestResult.TheVariants.{Passed, Failed}
-use Rattle.rules.specs.declared.session.Previous.{Previous}
-use Rattle.rules.specs.declared.session.Previous.TheVariants.{Nothing, Frame}
+use Rattle.rules.specs.Soundness.{Previous}
+use Rattle.std.specs.Prelude.{None, Some}
 use Rattle.rules.specs.declared.session.Watch.{Watch}
 use Rattle.rules.specs.declared.battery.Tally.{Tally}
 use Rattle.rules.specs.Quantities.{ma_ms, mission_time, elapsed}
@@ -30,18 +30,18 @@ within_limits n room =
     (leb→le n.charged.0 limit both.0, leb→le n.discharged.0 limit both.1)
 
 module _ (previous : Previous) (plausible : Bool) (t : Milliseconds) (i : Milliamperes) (n : Tally) where
-  pub charged : (start : Milliseconds) (earlier : Milliamperes) (d : Milliseconds) (a b : Charge) → previous ≡ Frame start earlier → plausible ≡ true
+  pub charged : (start : Milliseconds) (earlier : Milliamperes) (d : Milliseconds) (a b : Charge) → previous ≡ Some (start, earlier) → plausible ≡ true
       → d ≡ elapsed start t → a ≡ ma_ms (positive_part (halved (flow earlier i d))) → b ≡ ma_ms (negative_part (halved (flow earlier i d)))
       → ◌≡◌ {A = Tally} (record { commands = n.commands; charged = ma_ms (n.charged.0 + a.0); discharged = ma_ms (n.discharged.0 + b.0) })
       (charge previous plausible t i n)
   unfolding charge
   charged start earlier d a b e p d-is a-is b-is = rw (e, p, a-is, b-is, d-is) refl
 
-  pub not_charged : (start : Milliseconds) (earlier : Milliamperes) → previous ≡ Frame start earlier → plausible ≡ false → n ≡ charge previous plausible t i n
+  pub not_charged : (start : Milliseconds) (earlier : Milliamperes) → previous ≡ Some (start, earlier) → plausible ≡ false → n ≡ charge previous plausible t i n
   unfolding charge
   not_charged start earlier e p = simp (e, p, add-zero)
 
-  pub no_neighbour : previous ≡ Nothing → n ≡ charge previous plausible t i n
+  pub no_neighbour : previous ≡ None → n ≡ charge previous plausible t i n
   unfolding charge
   no_neighbour e = simp (e, add-zero)
 

@@ -33,24 +33,17 @@ fn charge(previous: Previous, plausible: bool, t: Milliseconds, i: Milliamperes,
     ensures { result ≡ charge_of previous plausible t i n }
 {
     match previous {
-        Previous::Nothing => n,
-        Previous::Frame(start, earlier) => {
-            if plausible {
-                let d = elapsed::elapsed(start, t);
-                let into = n.charged;
-                let out = n.discharged;
-                let gained = account::inflow(earlier, i, d);
-                let charged = Charge(into.0 + gained.0);
-                let lost = account::outflow(earlier, i, d);
-                let discharged = Charge(out.0 + lost.0);
-                return Tally {
-                    charged,
-                    discharged,
-                    ..n
-                };
+        Some((start, earlier)) if plausible => {
+            let d = elapsed::elapsed(start, t);
+            let gained = account::inflow(earlier, i, d);
+            let lost = account::outflow(earlier, i, d);
+            Tally {
+                charged: Charge(n.charged.0 + gained.0),
+                discharged: Charge(n.discharged.0 + lost.0),
+                ..n
             }
-            n
         }
+        _ => n,
     }
 }
 

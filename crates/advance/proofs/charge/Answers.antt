@@ -1,18 +1,20 @@
+use Rattle.std.proofs.Common.{rules, ◌≡◌, ◌∙◌, sym}
+use Rattle.step.specs.Charge.{charge as charge_of}
 use Rattle.advance.proofs.Laws.{charged, not_charged, no_neighbour}
 use Rattle.advance.proofs.charge.Goals as goal
 
-pub returns-then-plausible : goal.returns-then-plausible
-returns-then-plausible c =
+pub returns-in-Some : goal.returns-in-Some
+returns-in-Some c =
     let v = c.args in
-    charged v.previous v.plausible v.t v.i v.n c.in-Frame.start c.in-Frame.earlier _ _ _ c.in-Frame.is c.if-plausible.true
+    charged v.previous v.plausible v.t v.i v.n c.in-Some.start c.in-Some.earlier _ _ _ c.in-Some.is c.if-plausible.true
     c.elapsed-d.ensures c.inflow-gained.ensures.is c.outflow-lost.ensures.is
 
-pub returns-in-Nothing : goal.returns-in-Nothing
-returns-in-Nothing c =
+pub returns-in_default : goal.returns-in_default
+returns-in_default c = 
     let v = c.args in
-    no_neighbour v.previous v.plausible v.t v.i v.n c.in-Nothing.is
+    not_charged v.previous v.plausible v.t v.i v.n c.in-Some.start c.in-Some.earlier c.in-Some.is c.if-plausible.false
 
-pub returns-else-plausible : goal.returns-else-plausible
-returns-else-plausible c =
+pub returns-in_default-2 : goal.returns-in_default-2
+returns-in_default-2 c =
     let v = c.args in
-    not_charged v.previous v.plausible v.t v.i v.n c.in-Frame.start c.in-Frame.earlier c.in-Frame.is c.if-plausible.false
+    no_neighbour v.previous v.plausible v.t v.i v.n c.in_default.is

@@ -13,7 +13,7 @@ pub fn decimal<W: Write>(out: &mut W, n: u64) -> io::Result<()> {
 }
 
 pub fn signed<W: Write>(out: &mut W, z: i32) -> io::Result<()> {
-    let bits = word_writer::bits32(z) as u64;
+    let bits = z.cast_unsigned() as u64;
     if z < 0 {
         text(out, b"-")?;
         decimal(out, 4_294_967_296 - bits)

@@ -10,8 +10,5 @@ use rules::units::Milliseconds;
 pub fn elapsed(start: Milliseconds, t: Milliseconds) -> Milliseconds
     ensures { result ≡ elapsed_of start t }
 {
-    if start.0 <= t.0 {
-        return Milliseconds(t.0 - start.0);
-    }
-    Milliseconds(0)
+    Milliseconds(t.0.saturating_sub(start.0))
 }

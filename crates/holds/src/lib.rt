@@ -3,48 +3,66 @@
 
 ghost use Rattle.std.specs.Prelude.{◌≡◌, ℕ};
 ghost use Rattle.rules.specs.Protections.{row_of};
+ghost use Rattle.holds.specs.Times.{times_of};
 
 use rules::units::Milliseconds;
 
-const HOLDS: [Milliseconds; 8] = [
-    Milliseconds(500),
-    Milliseconds(2000),
-    Milliseconds(1000),
-    Milliseconds(1000),
-    Milliseconds(3000),
-    Milliseconds(0),
-    Milliseconds(30500),
-    Milliseconds(10000),
+#[derive(Clone, Copy)]
+struct Times {
+    hold: Milliseconds,
+    release: Milliseconds,
+}
+
+static TIMES: [Times; 8] = [
+    Times {
+        hold: Milliseconds(500),
+        release: Milliseconds(2000),
+    },
+    Times {
+        hold: Milliseconds(2000),
+        release: Milliseconds(2000),
+    },
+    Times {
+        hold: Milliseconds(1000),
+        release: Milliseconds(5000),
+    },
+    Times {
+        hold: Milliseconds(1000),
+        release: Milliseconds(5000),
+    },
+    Times {
+        hold: Milliseconds(3000),
+        release: Milliseconds(10000),
+    },
+    Times {
+        hold: Milliseconds(0),
+        release: Milliseconds(1000),
+    },
+    Times {
+        hold: Milliseconds(30500),
+        release: Milliseconds(10000),
+    },
+    Times {
+        hold: Milliseconds(10000),
+        release: Milliseconds(10000),
+    },
 ];
 
-const RELEASES: [Milliseconds; 8] = [
-    Milliseconds(2000),
-    Milliseconds(2000),
-    Milliseconds(5000),
-    Milliseconds(5000),
-    Milliseconds(10000),
-    Milliseconds(1000),
-    Milliseconds(10000),
-    Milliseconds(10000),
-];
+// Row 0 answers for a number that has no row. No time depends on the battery type.
+fn times_of(protection: u8) -> Times
+    ensures { (battery : ℕ) → result ≡ times_of (row_of battery protection) }
+{
+    *TIMES.get(usize::from(protection)).unwrap_or(&TIMES[0])
+}
 
-// The hold of a protection; row 0 answers for a number that has no row. No hold depends on the battery type.
 pub fn hold(protection: u8) -> Milliseconds
     ensures { (battery : ℕ) → result ≡ (row_of battery protection).hold }
 {
-    if protection < 8 {
-        HOLDS[protection as usize]
-    } else {
-        HOLDS[0]
-    }
+    times_of(protection).hold
 }
 
 pub fn release(protection: u8) -> Milliseconds
     ensures { (battery : ℕ) → result ≡ (row_of battery protection).release }
 {
-    if protection < 8 {
-        RELEASES[protection as usize]
-    } else {
-        RELEASES[0]
-    }
+    times_of(protection).release
 }

@@ -4,40 +4,20 @@
 ghost use Rattle.std.specs.Prelude.{◌≡◌, not, ◌&&◌};
 ghost use Rattle.rules.specs.Contactor.{state_and_command};
 ghost use Rattle.rules.specs.Protections.{row_of, mask_below};
-ghost use Rattle.step.specs.Close.{has_passed, lifted as lifted_of, closes as closes_of, contactor_of};
+ghost use Rattle.step.specs.Close.{lifted as lifted_of, closes as closes_of, contactor_of};
 
 use rules::battery::{Live, Record};
 use rules::calls::Command;
 use rules::states::{Contactor, State, TestResult};
 
-fn has_passed(t: TestResult) -> bool
-    ensures { result ≡ has_passed t }
-{
-    match t {
-        TestResult::NotRun => false,
-        TestResult::Passed => true,
-        TestResult::Failed => false,
-    }
-}
-
 // State and command ask for power.
 fn ready(s: State, c: Command) -> bool
     ensures { result ≡ state_and_command s c }
 {
-    match s {
-        State::Unpowered => false,
-        State::Dormant => false,
-        State::Operational => match c {
-            Command::Automated => true,
-            Command::Open => false,
-            Command::ForceClosed => false,
-        },
-        State::Maintenance => match c {
-            Command::Automated => false,
-            Command::Open => false,
-            Command::ForceClosed => true,
-        },
-    }
+    matches!(
+        (s, c),
+        (State::Operational, Command::Automated) | (State::Maintenance, Command::ForceClosed)
+    )
 }
 
 // The protections that hold the contactor open where they are tripped: all, or with override on all but 1, 3, 6 and 7; of any type.
@@ -55,16 +35,13 @@ fn lifted(battery: u8, on: bool, tripped: u8) -> bool
 }
 
 // Whether the contactor is closed, for a caller that keeps the stores elsewhere.
+#[tactic(auto, unfolding(step::specs::Close::closes))]
 pub fn closes(l: Live) -> bool
     ensures { result ≡ closes_of l }
 {
-    let watch = l.watch;
-    let control = l.control;
-    let test = watch.test;
-    let state = control.state;
-    let command = control.command;
-    (has_passed(test) & ready(state, command))
-        & lifted(l.battery, control.overriding, watch.tripped)
+    l.watch.test == TestResult::Passed
+        && ready(l.control.state, l.control.command)
+        && lifted(l.battery, l.control.overriding, l.watch.tripped)
 }
 
 pub fn contactor(r: Record) -> Contactor

@@ -25,10 +25,9 @@ pub fn begin(state: State, t: Milliseconds, l: Live) -> Live
 pub fn set_override(t: Milliseconds, on: bool, l: Live) -> Live
     ensures { result ≡ set_live t (override_control on l.control) l.tally l }
 {
-    let c = l.control;
     let control = Control {
         overriding: on,
-        ..c
+        ..l.control
     };
     Live {
         last: t,

@@ -1,7 +1,7 @@
 // What an accepted state request makes of the live part of a record.
 #![tactic(auto)]
 
-ghost use Rattle.std.specs.Prelude.{◌≡◌, cond};
+ghost use Rattle.std.specs.Prelude.{◌≡◌};
 ghost use Rattle.rules.specs.States.{requested, is_change, enters_dormant};
 ghost use Rattle.step.specs.Call.{set_live, request_control};
 
@@ -10,6 +10,7 @@ use rules::calls::{Command, Request};
 use rules::states::State;
 use rules::units::Milliseconds;
 
+// Kept: no `From<Request> for State`, which could stand only in rules, beside the two types; for its one caller it is no plainer.
 fn state_named(q: Request) -> State
     ensures { result ≡ requested q }
 {
@@ -23,63 +24,23 @@ fn state_named(q: Request) -> State
 fn is_change(s: State, q: Request) -> bool
     ensures { result ≡ is_change s q }
 {
-    match s {
-        State::Unpowered => match q {
-            Request::Dormant => true,
-            Request::Operational => true,
-            Request::Maintenance => true,
-        },
-        State::Dormant => match q {
-            Request::Dormant => false,
-            Request::Operational => true,
-            Request::Maintenance => true,
-        },
-        State::Operational => match q {
-            Request::Dormant => true,
-            Request::Operational => false,
-            Request::Maintenance => true,
-        },
-        State::Maintenance => match q {
-            Request::Dormant => true,
-            Request::Operational => true,
-            Request::Maintenance => false,
-        },
-    }
+    s != state_named(q)
 }
 
 fn enters_dormant(s: State, q: Request) -> bool
     ensures { result ≡ enters_dormant s q }
 {
-    match q {
-        Request::Dormant => match s {
-            State::Unpowered => true,
-            State::Dormant => false,
-            State::Operational => true,
-            State::Maintenance => true,
-        },
-        Request::Operational => false,
-        Request::Maintenance => false,
-    }
-}
-
-fn command_after(change: bool, c: Command) -> Command
-    ensures { result ≡ cond change Command.Automated c }
-{
-    if change { Command::Automated } else { c }
+    q == Request::Dormant && s != State::Dormant
 }
 
 pub fn request(t: Milliseconds, q: Request, l: Live) -> Live
     ensures { result ≡ set_live t (request_control q l.control) l.tally l }
 {
-    let c = l.control;
-    let s = c.state;
-    let was = c.command;
-    let state = state_named(q);
-    let command = command_after(is_change(s, q), was);
+    let Control { state, command, overriding } = l.control;
     let control = Control {
-        state,
-        command,
-        overriding: !enters_dormant(s, q) & c.overriding,
+        state: state_named(q),
+        command: if is_change(state, q) { Command::Automated } else { command },
+        overriding: !enters_dormant(state, q) && overriding,
     };
     Live {
         last: t,

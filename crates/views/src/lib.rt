@@ -8,57 +8,36 @@ ghost use Rattle.rules.specs.Shown.{long_entries, short_entries};
 ghost use Rattle.step.specs.Close.{contactor_of};
 
 use rules::battery::Live;
-use rules::calls::Command;
-use rules::states::{State, TestResult};
 use rules::stores::Stores;
 
 pub fn state(l: Live) -> u8
     ensures { result ≡ state_number l.control.state }
 {
-    let control = l.control;
-    let s = control.state;
-    match s {
-        State::Unpowered => 0,
-        State::Dormant => 1,
-        State::Operational => 2,
-        State::Maintenance => 3,
-    }
+    l.control.state as u8
 }
 
 pub fn command(l: Live) -> u8
     ensures { result ≡ command_number l.control.command }
 {
-    let control = l.control;
-    let c = control.command;
-    match c {
-        Command::Automated => 0,
-        Command::Open => 1,
-        Command::ForceClosed => 2,
-    }
+    u8::from(l.control.command)
 }
 
 pub fn overriding(l: Live) -> u8
     ensures { result ≡ override_number l.control.overriding }
 {
-    if l.control.overriding { 1 } else { 0 }
+    u8::from(l.control.overriding)
 }
 
 pub fn test(l: Live) -> u8
     ensures { result ≡ test_number l.watch.test }
 {
-    let watch = l.watch;
-    let t = watch.test;
-    match t {
-        TestResult::NotRun => 0,
-        TestResult::Passed => 1,
-        TestResult::Failed => 2,
-    }
+    l.watch.test as u8
 }
 
 pub fn contactor(l: Live) -> u8
     ensures { result ≡ contactor_number (contactor_of l) }
 {
-    if contactor::closes(l) { 1 } else { 0 }
+    u8::from(contactor::closes(l))
 }
 
 // The number of long-term entries.

@@ -5,13 +5,12 @@ use Prim.Native.Nat.{ℕ, zero, suc}
 use Rattle.rules.specs.declared.calls.Event.{Event}
 use Rattle.rules.specs.declared.stores.Stores.{Stores}
 use Rattle.rules.specs.declared.battery.Record.{Record}
-use Rattle.rules.specs.declared.answers.Outcome.{Outcome}
+use Rattle.rules.specs.Numbers.{Outcome}
 use Rattle.step.specs.Refusal.{refusal}
 use Rattle.step.specs.Call.{advance_live, advance_stores, advance, answer, call}
 use Rattle.changes.specs.Changes.{changes_stores}
 use Rattle.changes.proofs.Unchanged.{stores_kept}
-use Rattle.judging.specs.declared.Judged.{Judged}
-use Rattle.judging.specs.Judging.{judged_by, judged}
+use Rattle.judging.specs.Judging.{Judgement, judged_by, judged}
 use Rattle.judging.specs.Joined.{joined}
 
 joined_is : (r : Record) (e : Event) → joined r e (judged r.live r.stores e) ≡ call r e
@@ -30,7 +29,7 @@ joined_is r e = go (refusal r e)
     go zero = written (changes_stores e r.live (advance_live e r.live)) refl
     go (suc n) = refl
 
-module _ (r : Record) (e : Event) (j : Judged) (is : j ≡ judged r.live r.stores e) where
+module _ (r : Record) (e : Event) (j : Judgement) (is : j ≡ judged r.live r.stores e) where
   pub applied : joined r e j ≡ call r e
   applied = ap (joined r e) is ∙ joined_is r e
 

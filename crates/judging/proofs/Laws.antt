@@ -3,39 +3,27 @@ use mathlib.Core.Path.{◌≡◌, refl, sym, ap, ◌∙◌}
 use mathlib.Core.Bool.{Bool, true, false, cond, ◌&&◌}
 use Prim.Native.Nat.{ℕ, zero, suc}
 use native.Mathlib.Omega.{arith}
+use Rattle.std.specs.Prelude.{Option, None, Some}
+use Rattle.std.specs.Option.{is_some}
+use Rattle.rules.specs.declared.refusals.Refusal.{Refusal}
 use Rattle.rules.specs.declared.calls.Event.{Event}
 use Rattle.rules.specs.declared.stores.Stores.{Stores}
 use Rattle.rules.specs.declared.battery.Live.{Live}
+use Rattle.rules.specs.Numbers.{number_of}
 use Rattle.rules.proofs.Bools.{and_true}
+use Rattle.rules.proofs.Injective.{number_injective}
 use Rattle.step.specs.Sound.{sound_rest, sound_accounts}
 use Rattle.step.specs.Refusal.{refusal_live, refusal_tested}
 use Rattle.step.proofs.Rest.{refusal_tested_lem}
-use Rattle.advance.specs.Room.{has_room}
+use Rattle.advance.specs.Room.{has_room, advance_within}
+use Rattle.changes.specs.Changes.{changes_stores}
 use Rattle.judging.proofs.Bounds.{room_by}
 use Rattle.judging.specs.declared.Judged.{Judged}
-use Rattle.judging.specs.Judging.{live_by, changes_by, judged_by, judged, judged_tested}
-
--- ---- a refused call leaves all as it is
-
-module _ (l : Live) (e : Event) where
-  pub live_left : (n : ℕ) → ¬ (n ≡ 0) → l ≡ live_by n l e
-  live_left zero z = absurd (z refl)
-  live_left (suc n) z = refl
-
-  pub stores_left : (n : ℕ) → ¬ (n ≡ 0) → (after : Live) → false ≡ changes_by n l after e
-  stores_left zero z after = absurd (z refl)
-  stores_left (suc n) z after = refl
+use Rattle.judging.specs.Judging.{Judgement, judgement_of, judged_by, judged, judged_tested}
 
 -- ---- with its refusal, by soundness in two parts
 
 module _ (rest : Bool) (l : Live) (e : Event) where
-  module _ (a : Bool) (a-is : a ≡ sound_accounts l) where
-    pub of_sound : (rest && a) ≡ true → (n : ℕ) → n ≡ refusal_live l e → n ≡ refusal_tested rest l e
-    of_sound h n is = rw (← a-is, h) is
-
-    pub of_unsound : (rest && a) ≡ false → 5 ≡ refusal_tested rest l e
-    of_unsound h = rw (← a-is, h) refl
-
   -- an accepted call finds room
   room : refusal_tested rest l e ≡ 0 → has_room e l ≡ true
   room accepted = go (rest && sound_accounts l) refl accepted
@@ -44,16 +32,31 @@ module _ (rest : Bool) (l : Live) (e : Event) where
       go true is z = room_by e l (and_true rest (sound_accounts l) is).1 z
       go false is z = absurd (omega arith)
 
-  by_refusal : (n : ℕ) → refusal_tested rest l e ≡ n
-      → ◌≡◌ {A = Judged} (record { refusal = n; live = live_by n l e; changed = changes_by n l (live_by n l e) e }) (judged_tested rest l e)
-  unfolding judged_tested
-  by_refusal zero h = rw (h, room h) refl
-  by_refusal (suc n) h = rw h refl
+  -- the answer, put together from what is made of the live part
+  module _ (o : Option Refusal) (o-is : number_of o ≡ refusal_tested rest l e) where
+    pub of_accepted : is_some o ≡ false → (after : Live) → after ≡ advance_within e l
+        → judgement_of (record { refusal = o; live = after; changed = changes_stores e l after }) ≡ judged_tested rest l e
+    unfolding judged_tested
+    of_accepted none after is = rw is (go o o-is none)
+      where
+        go : (o : Option Refusal) → number_of o ≡ refusal_tested rest l e → is_some o ≡ false
+            → judgement_of (record { refusal = o; live = advance_within e l; changed = changes_stores e l (advance_within e l) }) ≡ judged_tested rest l e
+        go None h none = rw (← h, room (sym h)) refl
+        go (Some r) h none = absurd (cc)
 
-  pub from_parts : (n : ℕ) (after : Live) (changed : Bool)
-      → n ≡ refusal_tested rest l e → after ≡ live_by n l e → changed ≡ changes_by n l after e
-      → ◌≡◌ {A = Judged} (record { refusal = n; live = after; changed = changed }) (judged_tested rest l e)
-  from_parts n after changed n-is after_is changed-is = rw (changed-is, after_is) (by_refusal n (sym n-is))
+    pub of_refused : is_some o ≡ true → judgement_of (record { refusal = o; live = l; changed = false }) ≡ judged_tested rest l e
+    unfolding judged_tested
+    of_refused some = go (number_of o) refl
+      where
+        go : (n : ℕ) → number_of o ≡ n → ◌≡◌ {A = Judgement} (record { refusal = number_of o; live = l; changed = false }) (judged_tested rest l e)
+        go zero h = absurd (let none : o ≡ None = number_injective o None h in let no : is_some o ≡ false = ap is_some none in cc)
+        go (suc n) h = rw (← o-is, h) refl
+
+-- no two answers have one judgement
+pub judgement_injective : (a b : Judged) → judgement_of a ≡ judgement_of b → a ≡ b
+judgement_injective a b e =
+    let refusal : a.refusal ≡ b.refusal = number_injective a.refusal b.refusal (ap (λ (j : Judgement). j.refusal) e) in
+    λ i. record { refusal = refusal i; live = (e i).live; changed = (e i).changed }
 
 -- with the rest of a record's soundness it is the call on that record
 pub judged_tested_lem : (l : Live) (s : Stores) (e : Event) → judged_tested (sound_rest (record { live = l; stores = s })) l e ≡ judged l s e
@@ -61,5 +64,5 @@ unfolding judged judged_tested
 judged_tested_lem l s e = ap (λ (n : ℕ). judged_by n l e) (refusal_tested_lem _ (record { live = l; stores = s }) refl e)
 
 pub judged_here : (l : Live) (s : Stores) (e : Event) (rest : Bool) → rest ≡ sound_rest (record { live = l; stores = s })
-    → (j : Judged) → j ≡ judged_tested rest l e → j ≡ judged l s e
+    → (j : Judgement) → j ≡ judged_tested rest l e → j ≡ judged l s e
 judged_here l s e rest is j h = h ∙ ap (λ (b : Bool). judged_tested b l e) is ∙ judged_tested_lem l s e

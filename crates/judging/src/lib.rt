@@ -3,20 +3,22 @@
 #![tactic(auto)]
 
 ghost use Rattle.std.specs.Prelude.{◌≡◌};
+ghost use Rattle.rules.specs.Numbers.{number_of};
 ghost use Rattle.step.specs.Refusal.{refusal_tested};
 ghost use Rattle.step.specs.Sound.{sound_rest};
 ghost use Rattle.step.proofs.Shaped.{Shaped};
-ghost use Rattle.judging.specs.Judging.{live_by, changes_by, judged, judged_tested};
+ghost use Rattle.judging.specs.Judging.{judgement_of, judged, judged_tested};
 
 use rules::battery::Live;
 use rules::calls::Event;
-use rules::refusals::UNSOUND;
+use rules::refusals::Refusal;
 use rules::stores::Stores;
 
 // What a call makes of the live part, with its refusal, and whether the stores change.
+// Kept: `Judged` is a struct and no Result, since the line of a refused call too shows the live part (`lines::take_lines`).
 #[derive(Clone, Copy)]
 pub struct Judged {
-    pub refusal: u8,
+    pub refusal: Option<Refusal>,
     pub live: Live,
     pub changed: bool,
 }
@@ -30,43 +32,28 @@ pub fn rest_sound(live: Live, stores: Stores) -> bool
 }
 
 // The refusal of a call where that was tested before, with this result: the accounts are tested here, and the stores are not asked for.
-fn refusal_tested(rest: bool, live: Live, event: Event) -> u8
-    ensures { result ≡ refusal_tested rest live event }
+fn refusal_tested(rest: bool, live: Live, event: Event) -> Option<Refusal>
+    ensures { number_of result ≡ refusal_tested rest live event }
 {
     if rest & soundness::accounts(live) {
         return refusal::refusal(live, event);
     }
-    UNSOUND
+    Some(Refusal::Unsound)
 }
 
-// A refused call leaves the live part.
-fn live_after(refusal: u8, live: Live, event: Event) -> Live
-    ensures { result ≡ live_by refusal live event }
-{
-    if refusal == 0 {
-        return advance::advance_live(live, event);
-    }
-    live
-}
-
-// And the stores.
-fn stores_change(refusal: u8, live: Live, after: Live, event: Event) -> bool
-    ensures { result ≡ changes_by refusal live after event }
-{
-    if refusal == 0 {
-        return changes::changes_stores(live, after, event);
-    }
-    false
-}
-
-// A call where the rest of soundness was tested before, with this result. The answer is put together in one place: docs/DECISIONS.md, "One way
-// out, one caller".
+// A call where the rest of soundness was tested before, with this result. A refused one leaves the live part and the stores. The answer is put
+// together in one place: docs/DECISIONS.md, "One way out, one caller".
 pub fn judge_tested(rest: bool, live: Live, event: Event) -> Judged
-    ensures { result ≡ judged_tested rest live event }
+    ensures { judgement_of result ≡ judged_tested rest live event }
 {
     let refusal = refusal_tested(rest, live, event);
-    let after = live_after(refusal, live, event);
-    let changed = stores_change(refusal, live, after, event);
+    let accepted = refusal.is_none();
+    let after = if accepted {
+        advance::advance_live(live, event)
+    } else {
+        live
+    };
+    let changed = accepted && changes::changes_stores(live, after, event);
     Judged {
         refusal,
         live: after,
@@ -75,7 +62,7 @@ pub fn judge_tested(rest: bool, live: Live, event: Event) -> Judged
 }
 
 pub fn judge(live: Live, stores: Stores, event: Event) -> Judged
-    ensures { result ≡ judged live stores event }
+    ensures { judgement_of result ≡ judged live stores event }
 {
     judge_tested(rest_sound(live, stores), live, event)
 }

@@ -1,6 +1,5 @@
-use Rattle.std.proofs.Common.{rules}
 use Rattle.judging.proofs.Laws.{judged_here}
 use Rattle.judging.proofs.judge.Goals as goal
 
 pub returns : goal.returns
-returns c = search (judged_here, rules)
+returns c = judged_here _ _ _ _ c.rest_sound.ensures.is _ c.judge_tested.ensures

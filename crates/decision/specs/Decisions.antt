@@ -1,5 +1,5 @@
 -- What a run does next.
-use Rattle.std.specs.Prelude.{zero, suc, Bool, true, false, cond, ℤ, pos, negsuc}
+use Rattle.std.specs.Prelude.{ℕ, zero, suc, Bool, true, false, cond, Result, Ok, Err}
 use Rattle.decision.specs.declared.Why.{Why}
 use Rattle.decision.specs.declared.Why.TheVariants.{Full, End, Cut, Refused, Spent}
 use Rattle.decision.specs.declared.Next.{Next}
@@ -17,10 +17,10 @@ abbrev pub after_part : Bool → Why → Next
 after_part whole why = cond whole (after_lines why) Unwritten
 
 -- after a read, of what it answered
-abbrev pub after_read : ℤ → Next
-after_read (negsuc n) = Unread
-after_read (pos zero) = Close
-after_read (pos (suc n)) = Again
+abbrev pub after_read : {E : Type 0} → Result ℕ E → Next
+after_read (Err e) = Unread
+after_read (Ok zero) = Close
+after_read (Ok (suc n)) = Again
 
 abbrev pub reads : Next → Bool
 reads Again = false

@@ -15,12 +15,13 @@ pub enum Why {
     // the part ends within an event
     Cut,
     // bytes that can't be read, with document 01's number
+    // Kept: any number and not a `Refusal` alone, since the clauses of `report::closing` speak of each.
     Refused(u8),
     // the event's number, or a position in the part, would not fit in 64 bits
     Spent,
 }
 
-#[derive(Clone, Copy)]
+#[derive(Clone, Copy, PartialEq, Eq)]
 pub enum Next {
     // the rest of what is in the buffer
     Again,
@@ -40,8 +41,7 @@ fn after_lines(why: Why) -> Next
 {
     match why {
         Why::Full => Next::Again,
-        Why::End => Next::Read,
-        Why::Cut => Next::Read,
+        Why::End | Why::Cut => Next::Read,
         Why::Refused(_) => Next::Close,
         Why::Spent => Next::Uncounted,
     }
@@ -59,47 +59,32 @@ pub fn after_part(whole: bool, why: Why) -> Next
     ensures { result ≡ after_part whole why }
 {
     if whole {
-        return after_lines(why);
+        after_lines(why)
+    } else {
+        Next::Unwritten
     }
-    Next::Unwritten
 }
 
 // After a read: the input has ended only where the read answered 0.
-pub fn after_read(got: isize) -> Next
-    ensures { result ≡ after_read got }
+pub fn after_read<E>(got: &Result<usize, E>) -> Next
+    ensures { result ≡ after_read got.now }
 {
-    if got < 0 {
-        return Next::Unread;
+    match got {
+        Err(_) => Next::Unread,
+        Ok(0) => Next::Close,
+        Ok(_) => Next::Again,
     }
-    if got > 0 {
-        return Next::Again;
-    }
-    Next::Close
 }
 
 pub fn is_read(next: Next) -> bool
     ensures { result ≡ reads next }
 {
-    match next {
-        Next::Again => false,
-        Next::Read => true,
-        Next::Close => false,
-        Next::Unread => false,
-        Next::Unwritten => false,
-        Next::Uncounted => false,
-    }
+    next == Next::Read
 }
 
 // Whether the run is over with it.
 pub fn is_end(next: Next) -> bool
     ensures { result ≡ ends next }
 {
-    match next {
-        Next::Again => false,
-        Next::Read => false,
-        Next::Close => true,
-        Next::Unread => true,
-        Next::Unwritten => true,
-        Next::Uncounted => true,
-    }
+    !matches!(next, Next::Again | Next::Read)
 }

@@ -18,17 +18,15 @@ fn carry(digits: &mut [u8], size: usize) -> usize
     ensures value { result ≡ size + grown size digits.old }
     ensures digits_after { digits.new ≡ carried size digits.old }
 {
-    let mut i = size;
-    while 0 < i {
-        i -= 1;
-        let d = digits[i];
-        if d < 57 {
-            digits[i] = d + 1;
+    // Kept: an index; over `iter_mut().rev()` an invariant has no name for what is written.
+    for i in (0..size).rev() {
+        if digits[i] < b'9' {
+            digits[i] += 1;
             return size;
         }
-        digits[i] = 48;
+        digits[i] = b'0';
     }
-    digits[0] = 49;
+    digits[0] = b'1';
     size + 1
 }
 
@@ -49,7 +47,7 @@ pub fn increase(digits: &mut [u8], size: usize) -> usize
 pub fn after(n: u64) -> Counter
     ensures { result ≡ counter_of (n + 1) }
 {
-    let mut digits = [48; 21];
+    let mut digits = [b'0'; 21];
     let k = digits::put_decimal(n, &mut digits, 0);
     let size = increase(&mut digits, k);
     Counter { digits, size }

@@ -3,11 +3,13 @@ use mathlib.Core.Path.{◌≡◌, refl}
 use mathlib.Core.Bool.{Bool, true, false, cond}
 use Prim.Native.Nat.{ℕ, ◌+◌, ◌≤◌}
 use native.Mathlib.Nat.{add-zero}
+use denote.Enum.Bare.{sameb}
 use lib.Dec.{leb, leb→le}
 use Rattle.rules.specs.declared.units.Milliamperes.{Milliamperes}
 use Rattle.rules.specs.declared.units.Milliseconds.{Milliseconds}
 use Rattle.rules.specs.declared.units.Charge.{Charge}
 use Rattle.rules.specs.declared.sensors.Reading.{Reading}
+use Rattle.rules.specs.contracts.states.TestResult.{the_type}
 use Rattle.rules.specs.declared.states.TestResult.TheVariants.{Passed, Failed}
 use Rattle.rules.specs.Soundness.{Previous}
 use Rattle.std.specs.Prelude.{None, Some}
@@ -19,7 +21,6 @@ use Rattle.rules.specs.Test.{plausible as is_plausible}
 use Rattle.rules.specs.Accounts.{flow, halved, positive_part, negative_part}
 use Rattle.rules.proofs.Bools.{and_iff, is_true}
 use Rattle.step.specs.Charge.{charge}
-use Rattle.step.specs.Close.{has_passed}
 use Rattle.step.specs.Track.{observe}
 use Rattle.advance.specs.Room.{accounts_room}
 
@@ -45,11 +46,11 @@ module _ (previous : Previous) (plausible : Bool) (t : Milliseconds) (i : Millia
   unfolding charge
   no_neighbour e = simp (e, add-zero)
 
--- the test of a measurement says whether it is plausible
-pub passed_plausible : (battery : ℕ) (t : Milliseconds) (r : Reading) (w : Watch) → has_passed (observe battery t r w).test ≡ is_plausible r
+-- the test of a measurement, compared as the code does, says whether it is plausible
+pub passed_plausible : (battery : ℕ) (t : Milliseconds) (r : Reading) (w : Watch) → sameb the_type (observe battery t r w).test Passed ≡ is_plausible r
 unfolding observe
 passed_plausible battery t r w = go (is_plausible r)
   where
-    go : (b : Bool) → has_passed (cond b Passed Failed) ≡ b
+    go : (b : Bool) → sameb the_type (cond b Passed Failed) Passed ≡ b
     go true = refl
     go false = refl

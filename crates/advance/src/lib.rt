@@ -5,7 +5,6 @@ ghost use Rattle.std.specs.Prelude.{◌≡◌, ◌≤◌};
 ghost use Rattle.rules.specs.Quantities.{mission_time};
 ghost use Rattle.rules.specs.Soundness.{account_limit};
 ghost use Rattle.step.specs.Charge.{charge as charge_of};
-ghost use Rattle.step.specs.Close.{has_passed};
 ghost use Rattle.advance.specs.Room.{accounts_room, advance_within};
 
 use rules::battery::{Control, Live, Tally};
@@ -17,14 +16,12 @@ use rules::states::{State, TestResult};
 use rules::units::{Charge, Milliamperes, Milliseconds};
 
 // What no account of a sound record exceeds: 2,000,000 mA for the whole mission time. What one measurement adds to it fits in 64 bits.
-const ACCOUNT_LIMIT: u64 = 691_200_000_000_000;
+const ACCOUNT_LIMIT: Charge = Charge(691_200_000_000_000);
 
 fn accounts_room(n: Tally) -> bool
     ensures { result ≡ accounts_room n }
 {
-    let charged = n.charged;
-    let discharged = n.discharged;
-    (charged.0 <= ACCOUNT_LIMIT) & (discharged.0 <= ACCOUNT_LIMIT)
+    n.charged <= ACCOUNT_LIMIT && n.discharged <= ACCOUNT_LIMIT
 }
 
 // The current is that of the new measurement, at t.
@@ -48,59 +45,48 @@ fn charge(previous: Previous, plausible: bool, t: Milliseconds, i: Milliamperes,
 }
 
 // Whether the measurement was plausible is what its test says: that is not worked out again.
-fn has_passed(t: TestResult) -> bool
-    ensures { result ≡ has_passed t }
-{
-    match t {
-        TestResult::NotRun => false,
-        TestResult::Passed => true,
-        TestResult::Failed => false,
-    }
-}
-
 fn measure(t: Milliseconds, r: Reading, l: Live) -> Live
     ensures { result ≡ advance_within (Event.Measurement t r) l }
 {
-    if accounts_room(l.tally) {
-        let before = l.watch;
-        let previous = before.previous;
-        let watched = watch::observe(l.battery, t, r, before);
-        let test = watched.test;
-        let plausible = has_passed(test);
-        let tally = charge(previous, plausible, t, r.current, l.tally);
-        return Live {
-            last: t,
-            watch: watched,
-            tally,
-            ..l
-        };
+    if !accounts_room(l.tally) {
+        return l;
     }
-    l
+    let watch = watch::observe(l.battery, t, r, l.watch);
+    let plausible = watch.test == TestResult::Passed;
+    let tally = charge(l.watch.previous, plausible, t, r.current, l.tally);
+    Live {
+        last: t,
+        watch,
+        tally,
+        ..l
+    }
 }
 
 fn command(t: Milliseconds, c: Command, l: Live) -> Live
     ensures { result ≡ advance_within (Event.ContactorCommand t c) l }
 {
-    let counted = l.tally;
-    if counted.commands < COMMAND_CEILING {
-        let old = l.control;
-        let control = Control { command: c, ..old };
-        let tally = Tally {
-            commands: counted.commands + 1,
-            ..counted
-        };
-        return Live {
-            last: t,
-            control,
-            tally,
-            ..l
-        };
+    if l.tally.commands >= COMMAND_CEILING {
+        return l;
     }
-    l
+    let control = Control {
+        command: c,
+        ..l.control
+    };
+    let tally = Tally {
+        commands: l.tally.commands + 1,
+        ..l.tally
+    };
+    Live {
+        last: t,
+        control,
+        tally,
+        ..l
+    }
 }
 
 // The live part is given back as it was where its numbers have no room for what the call adds: never of a sound one, where the call is not
 // refused.
+// Kept: no Option of a live part, since `advance_live` can't fail and its clause says what is given back.
 pub fn advance_live(l: Live, e: Event) -> Live
     ensures { result ≡ advance_within e l }
 {

@@ -27,26 +27,20 @@ pub struct Seen {
 fn previous_of(plausible: bool, t: Milliseconds, i: Milliamperes) -> Previous
     ensures { result ≡ previous_by plausible t i }
 {
-    if plausible { Some((t, i)) } else { None }
+    plausible.then_some((t, i))
 }
 
 fn test_of(plausible: bool) -> TestResult
     ensures { result ≡ cond plausible Passed TestFailed }
 {
-    if plausible {
-        return TestResult::Passed;
-    }
-    TestResult::Failed
+    if plausible { TestResult::Passed } else { TestResult::Failed }
 }
 
 // No sensor of a plausible measurement failed: its mask is not computed.
 fn mask_of(plausible: bool, r: Reading) -> u16
     ensures { result ≡ cond plausible 0 (failed_mask r) }
 {
-    if plausible {
-        return 0;
-    }
-    reading::failed_mask(r)
+    if plausible { 0 } else { reading::failed_mask(r) }
 }
 
 // Nor are its failed sensors counted.
@@ -67,35 +61,30 @@ fn if_plausible(plausible: bool, side: u8) -> u8
     if plausible { side } else { 0 }
 }
 
+// Kept: no part of `Watch` that is a `Kept`: step's definitions and theorems, `keeping` first, name these fields of a watch.
 fn kept(w: Watch) -> Kept
     ensures { result ≡ kept_by w }
 {
-    let since = w.since;
-    Kept {
-        tripped: w.tripped,
-        beyond: w.beyond,
-        within: w.within,
-        since,
-    }
+    let Watch { tripped, beyond, within, since, .. } = w;
+    Kept { tripped, beyond, within, since }
 }
 
 // Every protection is in a within span, and none is tripped.
 fn settled(w: Watch) -> bool
     ensures { result ≡ is_settled w }
 {
-    ((w.beyond | w.tripped) == 0) & (w.within == 255)
+    (w.beyond | w.tripped) == 0 && w.within == 255
 }
 
 // What is watched after a calm measurement where all was settled: nothing is tracked anew.
 fn stay(t: Milliseconds, i: Milliamperes, w: Watch) -> Watch
     ensures { result ≡ shown_with calm_seen t i (kept_by w) }
 {
-    let previous = Some((t, i));
     Watch {
         test: TestResult::Passed,
         mask: 0,
         failed: 0,
-        previous,
+        previous: Some((t, i)),
         ..w
     }
 }
@@ -113,15 +102,12 @@ fn examine(calm: bool, battery: u8, r: Reading) -> Seen
         };
     }
     let plausible = reading::plausible(r);
-    let mask = mask_of(plausible, r);
     let sides = protection::sides(battery, r);
-    let beyond = if_plausible(plausible, sides.beyond);
-    let within = if_plausible(plausible, sides.within);
     Seen {
         plausible,
-        beyond,
-        within,
-        mask,
+        beyond: if_plausible(plausible, sides.beyond),
+        within: if_plausible(plausible, sides.within),
+        mask: mask_of(plausible, r),
     }
 }
 
@@ -129,20 +115,15 @@ fn examine(calm: bool, battery: u8, r: Reading) -> Seen
 fn watched(s: Seen, t: Milliseconds, i: Milliamperes, w: Watch) -> Watch
     ensures { result ≡ watched_by s t i w }
 {
-    let plausible = s.plausible;
-    let k = tracking::track(s.beyond, s.within, t, kept(w));
-    let since = k.since;
-    let test = test_of(plausible);
-    let failed = count_of(s.mask);
-    let previous = previous_of(plausible, t, i);
+    let Kept { tripped, beyond, within, since } = tracking::track(s.beyond, s.within, t, kept(w));
     Watch {
-        test,
-        tripped: k.tripped,
-        beyond: k.beyond,
-        within: k.within,
+        test: test_of(s.plausible),
+        tripped,
+        beyond,
+        within,
         mask: s.mask,
-        failed,
-        previous,
+        failed: count_of(s.mask),
+        previous: previous_of(s.plausible, t, i),
         since,
     }
 }
@@ -151,7 +132,7 @@ pub fn observe(battery: u8, t: Milliseconds, r: Reading, w: Watch) -> Watch
     ensures { result ≡ observe_of battery t r w }
 {
     let calm = calm::is_calm(battery, r);
-    if calm & settled(w) {
+    if calm && settled(w) {
         return stay(t, r.current, w);
     }
     watched(examine(calm, battery, r), t, r.current, w)

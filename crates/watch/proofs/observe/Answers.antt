@@ -1,16 +1,17 @@
 -- What a measurement shows is all that counts, and what is settled stays where it is calm.
-use Rattle.std.proofs.Common.{◌≡◌, ap, ◌∙◌, length, rules}
+use Rattle.std.proofs.Common.{◌≡◌, refl, ap, ◌∙◌, length, rules, true, ◌&&◌}
 use Rattle.rules.proofs.Lists.{mapped}
-use Rattle.watch.specs.Kept.{watched_by}
+use Rattle.calm.specs.Calm.{is_calm}
+use Rattle.watch.specs.Kept.{is_settled, watched_by}
 use Rattle.watch.proofs.Laws.{seen_observed, stays_observed}
 use Rattle.watch.proofs.observe.Goals as goal
 
-pub returns-then-calm-settled : goal.returns-then-calm-settled
-returns-then-calm-settled c =
+pub returns-then-settled : goal.returns-then-settled
+returns-then-settled c =
     let v = c.args in
-    let places : length c.args.w.since ≡ 8 = search (c.well_formed, rules, mapped) in
-    c.stay.ensures
-    ∙ stays_observed v.battery v.t v.r v.w places _ _ c.is_calm-calm.ensures c.settled.ensures c.if-calm-settled.true
+    let places : length v.w.since ≡ 8 = search (c.well_formed, rules, mapped) in
+    let both : (is_calm v.battery v.r && is_settled v.w) ≡ true = search rules in
+    c.stay.ensures ∙ stays_observed v.battery v.t v.r v.w places _ _ refl refl both
 
 pub returns : goal.returns
 returns c =

@@ -1,13 +1,15 @@
--- A row as the code reads it, from the fifty that it stands in.
+-- A row as the code reads it, by the page's rating past the last one, or from the fifty that it stands in.
 use Prim.Native.Nat.{ℕ, ◌+◌, ◌*◌, ◌/◌, ◌%◌, ◌≤◌, ◌<◌}
-use mathlib.Core.Path.{◌≡◌}
+use mathlib.Core.Path.{◌≡◌, refl, ap, ◌∙◌}
+use mathlib.Core.Bool.{Bool, true, false, cond}
 use mathlib.Core.List.{List}
 use native.Mathlib.Nat.{div-add-mod', mod-lt, mul-le-mul, div-le_of_le-mul}
 use native.Mathlib.Omega.{arith}
-use borrow.Author.Tests.{lt-ltb, le-ltb}
-use lib.Dec.{T}
+use borrow.Author.Tests.{lt-ltb, le-ltb, ltb-true, ltb-false}
+use Rattle.std.proofs.lemmas.List.{get_or_default}
+use lib.Dec.{T, ltb}
 use lib.IntN.{ℤ, pos}
-use lib.ListN.{get_or}
+use lib.ListN.{length, get_or, get_or-eq_default}
 use mir.Syntax.{w32}
 use mir.Val.{to_z, of_z}
 use mir.Facts.{to_z_pos}
@@ -15,7 +17,7 @@ use Rattle.rules.specs.declared.units.Milliamperes.{Milliamperes}
 use Rattle.rules.specs.Quantities.{ma}
 use Rattle.rules.specs.Protections.{curve, permitted_at}
 use Rattle.curve.proofs.Curve.{is_curve}
-use Rattle.curve.proofs.Rows.{row_is}
+use Rattle.curve.proofs.Rows.{row_is, rows_250}
 
 -- for a rating of at most 90,000 no row is above that
 pub curve_small : (rating c : ℕ) → rating ≤ 90_000 → c < 250 → curve rating c ≤ 90_000
@@ -24,12 +26,29 @@ curve_small rating c small below = div-le_of_le-mul 90_000 (mul-le-mul small (mu
     near : c + 50 ≤ 300
     near = omega arith
 
+row_at : (rating : ℕ) (rows : List ℤ) → T (is_curve rating rows) → (c : ℕ) → get_or rows c (pos rating) ≡ pos (permitted_at rating (pos c))
+row_at rating rows h c = by_place (ltb c 250) refl
+  where
+    long : length rows ≡ 250
+    long = rows_250 rating rows h
+
+    by_place : (b : Bool) → ltb c 250 ≡ b → get_or rows c (pos rating) ≡ pos (cond b (curve rating c) rating)
+    by_place true e =
+        let below : c < 250 = ltb-true c 250 e in
+        get_or_default rows c (pos rating) (pos 0) (rw long below) ∙ row_is rating rows h c below
+    by_place false e = get_or-eq_default rows (pos rating) (rw long (ltb-false c 250 e))
+
+-- what the code reads at any tenth of a degree
+pub row_of_page : (rating : ℕ) (rows : List ℤ) (c : ℕ) (l : Milliamperes) → l ≡ ma (get_or rows c (pos rating)) → T (is_curve rating rows)
+    → l ≡ ma (pos (permitted_at rating (pos c)))
+row_of_page rating rows c l l-is h = l-is ∙ ap ma (row_at rating rows h c)
+
 row_read : (rating : ℕ) (rows : List ℤ) → T (is_curve rating rows) → rating ≤ 90_000 → (c : ℕ) → c < 250
     → ◌≡◌ {A = Milliamperes} (ma (to_z w32 (of_z w32 (get_or rows c (pos 0))))) (ma (pos (permitted_at rating (pos c))))
 row_read rating rows h small c below =
     rw (row_is rating rows h c below, lt-ltb c 250 below, to_z_pos w32 {n = curve rating c} (omega (arith, curve_small rating c small below)))
 
--- the same where the place is counted from the first row of its fifty
+-- Kept: docs/PORT.md names row_in_fifty and in_no_fifty. The same where the place is counted from the first row of its fifty.
 pub row_in_fifty : (rating k : ℕ) → rating ≤ 90_000 → k < 5 → (place : ℕ) (rows : List ℤ) → T (is_curve rating rows)
     → (c : ℕ) → c / 50 ≡ k → k * 50 + c % 50 ≡ place
     → ◌≡◌ {A = Milliamperes} (ma (to_z w32 (of_z w32 (get_or rows place (pos 0))))) (ma (pos (permitted_at rating (pos c))))

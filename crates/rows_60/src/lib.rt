@@ -10,18 +10,10 @@ use rules::units::Milliamperes;
 
 mod rows;
 
-// The row, or the rating past the last one. A constant array is built on the stack where it is indexed; of one that is indexed by a place
-// within fifty rows the compiler builds these alone.
+// The row, or the rating past the last one.
+// Kept: a function for each page: docs/TRACE.md names both beside their pages and edits; what they do is curve::row.
 pub fn row(tenths: usize) -> Milliamperes
     ensures { result ≡ ma (pos (permitted_at 60_000 (pos tenths))) }
 {
-    let place = tenths % 50;
-    match tenths / 50 {
-        0 => Milliamperes(ROWS[place]),
-        1 => Milliamperes(ROWS[50 + place]),
-        2 => Milliamperes(ROWS[100 + place]),
-        3 => Milliamperes(ROWS[150 + place]),
-        4 => Milliamperes(ROWS[200 + place]),
-        _ => Milliamperes(60_000),
-    }
+    curve::row(&ROWS, 60_000, tenths)
 }

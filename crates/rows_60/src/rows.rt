@@ -1,6 +1,6 @@
 // The page of the abuse laboratory's procedure for a charge rating of 60,000 mA: the permitted charge current in mA, a row for each tenth of a
 // degree from 0.0 to 24.9 °C. A row is a figure and gets its unit where it is read: the prover does not hold an array of 250 structs.
-pub const ROWS: [i32; 250] = [
+pub static ROWS: [i32; 250] = [
     // 0.0 °C
     1_666, 1_734, 1_802, 1_872, 1_944, 2_016, 2_090, 2_166, 2_242, 2_320,
     // 1.0 °C

@@ -1,6 +1,6 @@
 // The page of the abuse laboratory's procedure for a charge rating of 90,000 mA: the permitted charge current in mA, a row for each tenth of a
 // degree from 0.0 to 24.9 °C. A row is a figure and gets its unit where it is read: the prover does not hold an array of 250 structs.
-pub const ROWS: [i32; 250] = [
+pub static ROWS: [i32; 250] = [
     // 0.0 °C
     2_500, 2_601, 2_704, 2_809, 2_916, 3_025, 3_136, 3_249, 3_364, 3_481,
     // 1.0 °C

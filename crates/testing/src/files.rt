@@ -2,7 +2,6 @@
 ghost use Rattle.std.specs.Prelude.{◌≤◌, length};
 ghost use Rattle.testing.specs.Files.{Opened};
 
-use crate::print;
 use std::io::{ErrorKind, Read, Write};
 use std::rt::{Env, Files};
 use std::{fs, io, str};
@@ -10,21 +9,20 @@ use std::{fs, io, str};
 // The longest name of a file.
 const PATH: usize = 4096;
 
-// Puts argument i at the start of a buffer, and answers its length, 0 where there is none.
-fn argument<R: Env>(rt: &R, i: usize, path: &mut [u8]) -> usize
-    ensures { result ≤ length path.new }
+// Argument i, at the start of a buffer. There are no bytes where there is none.
+fn argument<'a, R: Env>(rt: &R, i: usize, path: &'a mut [u8]) -> &'a [u8]
+    ensures { length result.now ≤ length path.entry.now }
 {
     match rt.arg(i, path) {
-        Ok(length) => length,
-        Err(_) => 0,
+        Ok(length) => &path[..length],
+        Err(_) => &[],
     }
 }
 
 // Prints argument i.
 pub fn print_name<R: Env, W: Write>(rt: &R, out: &mut W, i: usize) -> io::Result<()> {
-    let mut path = [0u8; PATH];
-    let length = argument(rt, i, &mut path);
-    print::text(out, &path[..length])
+    let mut buffer = [0u8; PATH];
+    out.write_all(argument(rt, i, &mut buffer))
 }
 
 fn open_path<R: Files>(rt: &R, path: &[u8]) -> io::Result<R::File> {
@@ -35,44 +33,46 @@ fn open_path<R: Files>(rt: &R, path: &[u8]) -> io::Result<R::File> {
 }
 
 // The file that argument i names, open for reading. Where there is none, standard error says why, and the answer is -1.
+// Kept: a number for that, which the must-fail edit no_file_answered_as_minus_2 and Opened of specs/Files speak of.
 pub fn open<R: Env + Files, E: Write>(rt: &R, errors: &mut E, i: usize) -> Result<R::File, i32>
     ensures { Opened result }
 {
-    let mut path = [0u8; PATH];
-    let length = argument(rt, i, &mut path);
-    match open_path(rt, &path[..length]) {
+    let mut buffer = [0u8; PATH];
+    let path = argument(rt, i, &mut buffer);
+    match open_path(rt, path) {
         Ok(file) => Ok(file),
         Err(why) => {
-            transfer::fail(errors, &path[..length], why);
+            transfer::fail(errors, path, why);
             Err(-1)
         }
     }
 }
 
-// Reads until a buffer is full, the input ends or a read fails, and answers how many bytes were put at the buffer's start.
-pub fn read_full<I: Read>(input: &mut I, buffer: &mut [u8]) -> usize
-    ensures { result ≤ length buffer.new }
+// Reads until a buffer is full, the input ends or a read fails, and answers the bytes that were read, which stand at the buffer's start.
+pub fn read_full<'a, I: Read>(input: &mut I, buffer: &'a mut [u8]) -> &'a [u8]
+    ensures { length result.now ≤ length buffer.entry.now }
 {
-    let mut done: usize = 0;
+    let mut done = 0;
     while done < buffer.len() {
         match transfer::read_some(input, &mut buffer[done..]) {
-            Ok(0) => return done,
-            Ok(n) => done += n,
-            Err(_) => return done,
+            Ok(n) if 0 < n => done += n,
+            _ => break,
         }
     }
-    done
+    &buffer[..done]
 }
 
-// Puts the file that argument i names, as far as there is room, at a buffer's start, and answers how many bytes that is.
-pub fn read<R: Env + Files, E: Write>(rt: &R, errors: &mut E, i: usize, buffer: &mut [u8]) -> usize
-    ensures { result ≤ length buffer.new }
+// The bytes of the file that argument i names, as far as a buffer has room for them.
+pub fn read<'a, R: Env + Files, E: Write>(
+    rt: &R,
+    errors: &mut E,
+    i: usize,
+    buffer: &'a mut [u8],
+) -> &'a [u8]
+    ensures { length result.now ≤ length buffer.entry.now }
 {
     match open(rt, errors, i) {
-        Ok(file) => {
-            let mut file = file;
-            read_full(&mut file, buffer)
-        }
-        Err(_) => 0,
+        Ok(mut file) => read_full(&mut file, buffer),
+        Err(_) => &[],
     }
 }

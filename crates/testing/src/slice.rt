@@ -5,21 +5,12 @@ ghost use Rattle.std.specs.Prelude.{◌≡◌, ◌-◌, get_or, take, drop};
 pub fn byte(s: &[u8], at: usize) -> usize
     ensures { result ≡ get_or s.now at 0 }
 {
-    word_reader::byte_at(s, at) as usize
+    usize::from(word_reader::byte_at(s, at))
 }
 
 // The bytes from one position up to another.
 pub fn part(s: &[u8], from: usize, to: usize) -> &[u8]
     ensures { result.now ≡ take (to - from) (drop from s.now) }
 {
-    if to <= from {
-        return &s[..0];
-    }
-    if s.len() <= from {
-        return &s[..0];
-    }
-    if s.len() < to {
-        return &s[from..];
-    }
-    &s[from..to]
+    s.get(from..to.min(s.len())).unwrap_or(&[])
 }

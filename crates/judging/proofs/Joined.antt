@@ -5,13 +5,15 @@ use Prim.Native.Nat.{ℕ, zero, suc}
 use Rattle.rules.specs.declared.calls.Event.{Event}
 use Rattle.rules.specs.declared.stores.Stores.{Stores}
 use Rattle.rules.specs.declared.battery.Record.{Record}
-use Rattle.rules.specs.Numbers.{Outcome}
+use Rattle.rules.specs.declared.refusals.Refusal.{Refusal}
+use Rattle.rules.specs.Numbers.{Outcome, refusal_number}
 use Rattle.step.specs.Refusal.{refusal}
 use Rattle.step.specs.Call.{advance_live, advance_stores, advance, answer, call}
 use Rattle.changes.specs.Changes.{changes_stores}
 use Rattle.changes.proofs.Unchanged.{stores_kept}
 use Rattle.judging.specs.Judging.{Judgement, judged_by, judged}
 use Rattle.judging.specs.Joined.{joined}
+use Rattle.judging.proofs.Laws.{is_refused}
 
 joined_is : (r : Record) (e : Event) → joined r e (judged r.live r.stores e) ≡ call r e
 unfolding judged
@@ -56,3 +58,11 @@ module _ (r : Record) (e : Event) (j : Judgement) (is : j ≡ judged r.live r.st
   pub unchanged : j.changed ≡ false → (s : Stores) → s ≡ r.stores
       → ◌≡◌ {A = Outcome} (record { refusal = j.refusal; after = record { live = j.live; stores = s } }) (call r e)
   unchanged h s same = rw same (kept h)
+
+  -- a refused call leaves the record
+  pub refused : (x : Refusal) → j.refusal ≡ refusal_number x → ◌≡◌ {A = Outcome} (record { refusal = refusal_number x; after = r }) (call r e)
+  refused x number = go (refusal r e) (ap (λ (o : Outcome). o.refusal) applied)
+    where
+      go : (n : ℕ) → j.refusal ≡ (answer n (advance r e) r).refusal → ◌≡◌ {A = Outcome} (record { refusal = refusal_number x; after = r }) (answer n (advance r e) r)
+      go zero h = absurd (is_refused x (sym number ∙ h))
+      go (suc n) h = rw (← number, h) refl

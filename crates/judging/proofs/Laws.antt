@@ -9,7 +9,7 @@ use Rattle.rules.specs.declared.refusals.Refusal.{Refusal}
 use Rattle.rules.specs.declared.calls.Event.{Event}
 use Rattle.rules.specs.declared.stores.Stores.{Stores}
 use Rattle.rules.specs.declared.battery.Live.{Live}
-use Rattle.rules.specs.Numbers.{number_of}
+use Rattle.rules.specs.Numbers.{refusal_number, number_of}
 use Rattle.rules.proofs.Bools.{and_true}
 use Rattle.rules.proofs.Injective.{number_injective}
 use Rattle.step.specs.Sound.{sound_rest, sound_accounts}
@@ -51,6 +51,10 @@ module _ (rest : Bool) (l : Live) (e : Event) where
         go : (n : ℕ) → number_of o ≡ n → ◌≡◌ {A = Judgement} (record { refusal = number_of o; live = l; changed = false }) (judged_tested rest l e)
         go zero h = absurd (let none : o ≡ None = number_injective o None h in let no : is_some o ≡ false = ap is_some none in cc)
         go (suc n) h = rw (← o-is, h) refl
+
+-- no refusal has the number of none
+pub is_refused : (x : Refusal) → ¬ (refusal_number x ≡ 0)
+is_refused x z = absurd (let none : ◌≡◌ {A = Option Refusal} (Some x) None = number_injective (Some x) None z in cc)
 
 -- no two answers have one judgement
 pub judgement_injective : (a b : Judged) → judgement_of a ≡ judgement_of b → a ≡ b

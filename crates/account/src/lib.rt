@@ -11,7 +11,7 @@ fn sum(earlier: Milliamperes, later: Milliamperes) -> i64
     ensures is { result ≡ (sum_of earlier later).0 }
     ensures small { nat_abs result ≤ 4_294_967_296 }
 {
-    (earlier.0 as i64) + (later.0 as i64)
+    i64::from(earlier.0) + i64::from(later.0)
 }
 
 fn half(magnitude: u64, elapsed: Milliseconds) -> Charge
@@ -19,7 +19,16 @@ fn half(magnitude: u64, elapsed: Milliseconds) -> Charge
     ensures is { result ≡ ma_ms (magnitude * elapsed.0 / 2) }
     ensures small { result.0 ≤ 9_223_372_036_854_775_808 }
 {
-    Charge(magnitude * (elapsed.0 as u64) / 2)
+    Charge(magnitude * u64::from(elapsed.0) / 2)
+}
+
+// What of a sum has its sign: none of one below 0.
+fn positive(sum: i64) -> u64
+    requires { nat_abs sum ≤ 4_294_967_296 }
+    ensures is { result ≡ positive_part sum }
+    ensures small { result ≤ 4_294_967_296 }
+{
+    sum.max(0) as u64
 }
 
 // Of currents that charge on the whole. The bound is for the account that it joins.
@@ -27,11 +36,7 @@ pub fn inflow(earlier: Milliamperes, later: Milliamperes, elapsed: Milliseconds)
     ensures is { result ≡ ma_ms (positive_part (halved (flow earlier later elapsed))) }
     ensures small { result.0 ≤ 9_223_372_036_854_775_808 }
 {
-    let z = sum(earlier, later);
-    if z < 0 {
-        return Charge(0);
-    }
-    half(z as u64, elapsed)
+    half(positive(sum(earlier, later)), elapsed)
 }
 
 // Of currents that discharge on the whole: the magnitude is halved, so that it is rounded towards zero too.
@@ -39,10 +44,5 @@ pub fn outflow(earlier: Milliamperes, later: Milliamperes, elapsed: Milliseconds
     ensures is { result ≡ ma_ms (negative_part (halved (flow earlier later elapsed))) }
     ensures small { result.0 ≤ 9_223_372_036_854_775_808 }
 {
-    let z = sum(earlier, later);
-    if z < 0 {
-        let magnitude = 0 - z;
-        return half(magnitude as u64, elapsed);
-    }
-    Charge(0)
+    half(positive(-sum(earlier, later)), elapsed)
 }

@@ -1,32 +1,30 @@
 // Reads and writes that a signal does not break off.
 #![tactic(auto)]
 
-ghost use Rattle.std.specs.Prelude.{◌≤◌, length, IfOk};
+ghost use Rattle.std.specs.Prelude.{◌≤◌, ◌<◌, length, IfOk, IfErr};
 ghost use Rattle.transfer.specs.Reason.{IsWithoutNumber};
 
 use std::io::{Cursor, ErrorKind, Read, Write};
 use std::{io, str};
 
-// How many bytes of a slice were written, and the error that ended it where there was one.
+// Not all bytes of a slice were written: how many were, and why no more.
 #[derive(Clone, Copy)]
-pub struct Put {
+pub struct Unwritten {
     pub count: usize,
-    pub error: Option<io::Error>,
+    pub error: io::Error,
 }
 
 // One read that a signal did not break off: how many bytes it put at the start of the buffer, 0 at the end of the input, or why it
 // failed.
+// Kept: a loop of its own beside that of `write_some`; one `retry` of both takes an `FnMut`, in whose contract a call's count is bounded by
+// nothing, since it ranges over every state of the closure, so that the clause of neither follows.
 pub fn read_some<R: Read>(input: &mut R, buffer: &mut [u8]) -> io::Result<usize>
     ensures { IfOk result (λ n. n ≤ length buffer.old) }
 {
     for _ in 0..u64::MAX {
         match input.read(buffer) {
-            Ok(got) => return Ok(got),
-            Err(error) => {
-                if error.kind() != ErrorKind::Interrupted {
-                    return Err(error);
-                }
-            }
+            Err(error) if error.kind() == ErrorKind::Interrupted => (),
+            answer => return answer,
         }
     }
     Err(io::Error::from(ErrorKind::Interrupted))
@@ -37,55 +35,40 @@ fn write_some<W: Write>(output: &mut W, bytes: &[u8]) -> io::Result<usize>
 {
     for _ in 0..u64::MAX {
         match output.write(bytes) {
-            Ok(put) => return Ok(put),
-            Err(error) => {
-                if error.kind() != ErrorKind::Interrupted {
-                    return Err(error);
-                }
-            }
+            Err(error) if error.kind() == ErrorKind::Interrupted => (),
+            answer => return answer,
         }
     }
     Err(io::Error::from(ErrorKind::Interrupted))
 }
 
-// Writes the bytes, and answers how many of them were written. Where that is not all, the error says why.
-pub fn write_all<W: Write>(output: &mut W, bytes: &[u8]) -> Put
-    ensures { result.count ≤ length bytes.now }
+// Writes the bytes. Where not all were written, the error says how many were, and why.
+pub fn write_all<W: Write>(output: &mut W, bytes: &[u8]) -> Result<(), Unwritten>
+    ensures { IfErr result (λ why. why.count < length bytes.now) }
 {
-    let mut done: usize = 0;
+    let mut done = 0;
     while done < bytes.len() {
         match write_some(output, &bytes[done..]) {
             Ok(0) => {
-                return Put {
+                return Err(Unwritten {
                     count: done,
-                    error: Some(io::Error::from(ErrorKind::WriteZero)),
-                };
+                    error: io::Error::from(ErrorKind::WriteZero),
+                });
             }
             Ok(n) => done += n,
-            Err(error) => {
-                return Put {
-                    count: done,
-                    error: Some(error),
-                };
-            }
+            Err(error) => return Err(Unwritten { count: done, error }),
         }
     }
-    Put {
-        count: done,
-        error: None,
-    }
+    Ok(())
 }
 
 // The text of an error ends in the number that the system has for it.
 fn without_number(text: &[u8]) -> &[u8]
     ensures { IsWithoutNumber text.now result.now }
 {
-    match str::from_utf8(text) {
-        Ok(words) => match words.rsplit_once(" (os error ") {
-            Some((reason, _)) => reason.as_bytes(),
-            None => text,
-        },
-        Err(_) => text,
+    match str::from_utf8(text).map(|words| words.rsplit_once(" (os error ")) {
+        Ok(Some((reason, _))) => reason.as_bytes(),
+        _ => text,
     }
 }
 

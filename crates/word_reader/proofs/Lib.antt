@@ -1,4 +1,2 @@
-pub mod Signed
-pub mod Matches
 pub mod Ranges
 pub mod Reading

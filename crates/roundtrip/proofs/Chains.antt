@@ -7,11 +7,11 @@ use lib.ListN.{length, take, drop, length-drop, drop_of_length-le}
 use lib.Seq.{take_at, drop-drop, take-append-add, drop-append_seam}
 use denote.Ref.{Bor}
 use denote.MutBor.{MutBor}
+use Rattle.std.specs.Prelude.{Result, Ok, Err}
 use Rattle.rules.proofs.ByteLaws.{read_end}
 use Rattle.rules.specs.Bytes.{written_or, buffer_after}
 use Rattle.rules.specs.Numbers.{bytes, answer_of_write}
-use Rattle.rules.specs.declared.answers.Written.{Written}
-use Rattle.rules.specs.declared.answers.Written.TheVariants.{Bytes, Refused}
+use Rattle.rules.specs.declared.refusals.Refusal.{Refusal}
 use Rattle.roundtrip.proofs.Forms.{read_back, Again, read_again}
 use Rattle.roundtrip.specs.Chains.{Items, Reader, Writer, item_bytes, all_bytes, AllInRange, ReadsBack, ReadAs, ReadToEnd, ended, ReadToEnd.one as read_one, Wrote, none, Wrote.one as wrote-next, WrittenAgain, Whole}
 
@@ -57,9 +57,9 @@ module _ (I : Items) where
     accepted : (refusal n count : ℕ) (due before after : List ℕ) → bytes n ≡ written_or refusal count → after ≡ buffer_after refusal due before
         → (n ≡ count) × (after ≡ due ++ drop (length due) before)
     accepted zero n count due before after e f = ((cc), f)
-    accepted (suc refusal) n count due before after e f = absurd (let z : ◌≡◌ {A = ℕ} 0 1 = cc in omega arith)
+    accepted (suc refusal) n count due before after e f = absurd (cc)
 
-    wrote_one : {x : I.Item} {before after : MutBor (List ℕ)} {n : ℕ} → W.Allows x before (Bytes n) after
+    wrote_one : {x : I.Item} {before after : MutBor (List ℕ)} {n : ℕ} → W.Allows x before (Ok n) after
         → (n ≡ length (item_bytes I x)) × (take n after.now ≡ item_bytes I x)
     wrote_one {x} {before} {after} {n} g =
         let right = W.right g in
@@ -86,9 +86,9 @@ module _ (I : Items) where
         → (log : Bor (List ℕ)) → log.now ≡ take used after → ReadsBack I R log 0 xs
     written_then_read {xs} w log e = reads_back R log xs 0 (wrote_range W w) (e ∙ wrote_all W w)
 
-    answered : (r : Written) (n : ℕ) → answer_of_write r ≡ bytes n → r ≡ Bytes n
-    answered (Bytes m) n e = ap Bytes (cc)
-    answered (Refused m) n e = absurd (let z : ◌≡◌ {A = ℕ} 0 1 = cc in omega arith)
+    answered : (r : Result ℕ Refusal) (n : ℕ) → answer_of_write r ≡ bytes n → r ≡ Ok n
+    answered (Ok m) n e = ap (λ (k : ℕ). Ok k) (cc)
+    answered (Err m) n e = absurd (cc)
 
     pub read_then_written : {log : Bor (List ℕ)} {at next : ℕ} {x : I.Item} → R.Allows log at (R.Found x next) → WrittenAgain I W log.now at x next
     read_then_written {log} {at} {next} {x} g =

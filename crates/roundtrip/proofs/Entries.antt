@@ -9,11 +9,10 @@ use borrow.Author.Tests.{lt-ltb, le-ltb}
 use lib.ListN.{length, take}
 use denote.Ref.{Bor}
 use contract.Lifetimes.{Lfts}
+use Rattle.std.specs.Prelude.{None, Some, Ok}
 use Rattle.rules.proofs.Injective.{read_entry_injective}
 use Rattle.rules.specs.Bytes.{is_in, InRange, entry_forms, entry_bytes, protection_of, entry_write_refusal, written_or}
 use Rattle.rules.specs.Numbers.{entry_kind, entry_values, answer_of_read_entry, bytes}
-use Rattle.rules.specs.declared.answers.ReadEntry.{ReadEntry}
-use Rattle.rules.specs.declared.answers.ReadEntry.TheVariants.{Found, End}
 use Rattle.rules.specs.declared.stores.Entry.{Entry}
 use Rattle.rules.specs.declared.stores.Entry.TheVariants.{Trip, Release}
 use Rattle.word_reader.proofs.Ranges.{above, within}
@@ -22,7 +21,7 @@ use Rattle.entry_reader.proofs.read_entry.Reads as read-entry
 use Rattle.entry_writer.proofs.write_entry.Reads as write-entry
 use Rattle.entry_writer.specs.Machine.{EntryInMachine}
 use Rattle.roundtrip.proofs.Chains.{written_then_read, read_then_written, whole_log}
-use Rattle.roundtrip.specs.Chains.{Items, Reader, Writer, bytes_of, ReadsBack, ReadToEnd, Wrote, WrittenAgain, Whole}
+use Rattle.roundtrip.specs.Chains.{ReadResult, Items, Reader, Writer, bytes_of, ReadsBack, ReadToEnd, Wrote, WrittenAgain, Whole}
 
 abbrev pub entries : Items
 entries = record { Item = Entry; forms = entry_forms; kind = entry_kind; values = entry_values }
@@ -55,7 +54,7 @@ protection_accepted e buffer n accepted = go (dec_le (protection_of e) 7)
     go (yes k) = k
     go (no k) =
         let refused4 = rw (lt-ltb 7 (protection_of e) (omega arith)) at accepted in
-        absurd (let z : ◌≡◌ {A = ℕ} 0 1 = cc in omega arith)
+        absurd (cc)
 
 -- an entry with its fields' types and a protection number up to 7 is in range
 pub entry_range : (e : Entry) → EntryInMachine e → protection_of e ≤ 7 → InRange entry_forms (entry_kind e) (entry_values e)
@@ -68,9 +67,9 @@ module _ (κs : Lfts 1) where
   -- what `read_entry` may answer, and what `write_entry` may answer and leave, as their contracts have it
   abbrev pub reader : Reader entries
   reader = record {
-    Answer = ReadEntry;
-    Found = Found;
-    End = End;
+    Answer = ReadResult Entry;
+    Found = λ e next. Ok (Some (e, next));
+    End = Ok None;
     answer = answer_of_read_entry;
     of_found = λ e next. refl;
     of_end = refl;
@@ -97,7 +96,7 @@ module _ (κs : Lfts 1) where
   entries_written_then_read = written_then_read entries reader writer
 
   -- An entry that was read is in range, and where there is room it is written again as the very bytes that were read.
-  pub entry_read_then_written : (log : Bor (List ℕ)) (at next : ℕ) (e : Entry) → reader.Allows log at (Found e next)
+  pub entry_read_then_written : (log : Bor (List ℕ)) (at next : ℕ) (e : Entry) → reader.Allows log at (Ok (Some (e, next)))
       → WrittenAgain entries writer log.now at e next
   entry_read_then_written log at next e read = read_then_written entries reader writer {log = log} read
 

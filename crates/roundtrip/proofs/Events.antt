@@ -6,16 +6,15 @@ use borrow.Author.Tests.{le-ltb}
 use lib.ListN.{length, take}
 use denote.Ref.{Bor}
 use contract.Lifetimes.{Lfts}
+use Rattle.std.specs.Prelude.{None, Some, Ok}
 use Rattle.rules.proofs.Injective.{read_event_injective}
 use Rattle.rules.specs.Bytes.{event_forms, event_bytes, event_write_refusal}
 use Rattle.rules.specs.Numbers.{event_kind, event_values, answer_of_read_event}
-use Rattle.rules.specs.declared.answers.ReadEvent.{ReadEvent}
-use Rattle.rules.specs.declared.answers.ReadEvent.TheVariants.{Found, End}
 use Rattle.rules.specs.declared.calls.Event.{Event}
 use Rattle.event_reader.proofs.read_event.Reads as read-event
 use Rattle.event_writer.proofs.write_event.Reads as write-event
 use Rattle.roundtrip.proofs.Chains.{written_then_read, read_then_written, whole_log}
-use Rattle.roundtrip.specs.Chains.{Items, Reader, Writer, bytes_of, ReadsBack, ReadToEnd, Wrote, WrittenAgain, Whole}
+use Rattle.roundtrip.specs.Chains.{ReadResult, Items, Reader, Writer, bytes_of, ReadsBack, ReadToEnd, Wrote, WrittenAgain, Whole}
 
 abbrev pub events : Items
 events = record { Item = Event; forms = event_forms; kind = event_kind; values = event_values }
@@ -31,9 +30,9 @@ module _ (κs : Lfts 1) where
   -- what `read_event` may answer, and what `write_event` may answer and leave, as their contracts have it
   abbrev pub reader : Reader events
   reader = record {
-    Answer = ReadEvent;
-    Found = Found;
-    End = End;
+    Answer = ReadResult Event;
+    Found = λ e next. Ok (Some (e, next));
+    End = Ok None;
     answer = answer_of_read_event;
     of_found = λ e next. refl;
     of_end = refl;
@@ -60,7 +59,7 @@ module _ (κs : Lfts 1) where
   events_written_then_read = written_then_read events reader writer
 
   -- An event that was read is in range, and where there is room it is written again as the very bytes that were read.
-  pub event_read_then_written : (log : Bor (List ℕ)) (at next : ℕ) (e : Event) → reader.Allows log at (Found e next)
+  pub event_read_then_written : (log : Bor (List ℕ)) (at next : ℕ) (e : Event) → reader.Allows log at (Ok (Some (e, next)))
       → WrittenAgain events writer log.now at e next
   event_read_then_written log at next e read = read_then_written events reader writer {log = log} read
 

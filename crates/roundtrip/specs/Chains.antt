@@ -1,11 +1,15 @@
 -- The round trips as statements, for any reader and writer of items that are a kind with values: what a chain of writes and a chain of
 -- reads are, through what the contracts allow, and what is claimed of them.
-use Rattle.std.specs.Prelude.{ℕ, ◌+◌, ◌-◌, ◌≤◌, List, [], ◌∷◌, ◌++◌, ◌≡◌, ℤ, length, take, drop}
+use Rattle.std.specs.Prelude.{ℕ, ◌+◌, ◌-◌, ◌≤◌, List, [], ◌∷◌, ◌++◌, ◌≡◌, ℤ, length, take, drop, Option, Result, Ok}
 use Rattle.std.specs.Borrow.{Bor, MutBor}
 use Rattle.rules.specs.Bytes.{Form, AreBytes, InRange, fields_of, fields_bytes, read_at, written_or, buffer_after}
 use Rattle.rules.specs.Numbers.{ReadAnswer, found, end, answer_of_write}
-use Rattle.rules.specs.declared.answers.Written.{Written}
-use Rattle.rules.specs.declared.answers.Written.TheVariants.{Bytes}
+use Rattle.rules.specs.declared.answers.Unreadable.{Unreadable}
+use Rattle.rules.specs.declared.refusals.Refusal.{Refusal}
+
+-- what a reader of T answers, as rules::answers has it
+abbrev pub ReadResult : Type 0 → Type 0
+ReadResult T = Result (Option (T × ℕ)) (Unreadable Refusal)
 
 -- "one byte of kind, then a body"
 abbrev pub bytes_of : List Form → ℕ → List ℤ → List ℕ
@@ -38,11 +42,11 @@ pub record Writer (I : Items) : Type 1 where
   pub is_due_lem : (a : I.Item) → due a ≡ bytes_of I.forms (I.kind a) (I.values a)
   pub refusal : I.Item → List ℕ → ℕ
   pub fits : (a : I.Item) (buffer : List ℕ) → InRange I.forms (I.kind a) (I.values a) → length (due a) ≤ length buffer → refusal a buffer ≡ 0
-  pub Allows : I.Item → MutBor (List ℕ) → Written → MutBor (List ℕ) → Type 0
-  pub right : {a : I.Item} {before after : MutBor (List ℕ)} {r : Written} → Allows a before r after
+  pub Allows : I.Item → MutBor (List ℕ) → Result ℕ Refusal → MutBor (List ℕ) → Type 0
+  pub right : {a : I.Item} {before after : MutBor (List ℕ)} {r : Result ℕ Refusal} → Allows a before r after
       → (answer_of_write r ≡ written_or (refusal a before.now) (length (due a)))
       × (after.now ≡ buffer_after (refusal a before.now) (due a) before.now)
-  pub ranged : {a : I.Item} {before after : MutBor (List ℕ)} {n : ℕ} → Allows a before (Bytes n) after → InRange I.forms (I.kind a) (I.values a)
+  pub ranged : {a : I.Item} {before after : MutBor (List ℕ)} {n : ℕ} → Allows a before (Ok n) after → InRange I.forms (I.kind a) (I.values a)
 
 module _ (I : Items) where
   abbrev pub item_bytes : I.Item → List ℕ
@@ -84,7 +88,7 @@ module _ (I : Items) where
     pub data Wrote : List I.Item → List ℕ → List ℕ → ℕ → Type 0 where
       none : {buffer : List ℕ} → Wrote [] buffer buffer 0
       one : {x : I.Item} {xs : List I.Item} {before after : MutBor (List ℕ)} {n used : ℕ} {rest : List ℕ}
-          → W.Allows x before (Bytes n) after → Wrote xs (drop n after.now) rest used
+          → W.Allows x before (Ok n) after → Wrote xs (drop n after.now) rest used
           → Wrote (x ∷ xs) before.now (take n after.now ++ rest) (n + used)
 
     -- ---- both
@@ -93,8 +97,8 @@ module _ (I : Items) where
     pub record WrittenAgain (log : List ℕ) (at : ℕ) (x : I.Item) (next : ℕ) : Type 0 where
       pub range : InRange I.forms (I.kind x) (I.values x)
       pub bytes : W.due x ≡ take (next - at) (drop at log)
-      pub written : {before after : MutBor (List ℕ)} {r : Written} → W.Allows x before r after → next - at ≤ length before.now
-          → (r ≡ Bytes (next - at)) × (after.now ≡ take (next - at) (drop at log) ++ drop (next - at) before.now)
+      pub written : {before after : MutBor (List ℕ)} {r : Result ℕ Refusal} → W.Allows x before r after → next - at ≤ length before.now
+          → (r ≡ Ok (next - at)) × (after.now ≡ take (next - at) (drop at log) ++ drop (next - at) before.now)
 
     -- A log that reads to "end" is exactly the bytes of what was read, all of it in range, and is what writing it gives.
     pub record Whole (log : List ℕ) (xs : List I.Item) : Type 0 where

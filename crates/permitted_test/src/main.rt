@@ -6,41 +6,24 @@
 use rules::units::DeciCelsius;
 use std::io;
 use std::io::Write;
-use testing::print;
 
 fn line<W: Write>(out: &mut W, battery: u8, coldest: i16) -> io::Result<()> {
-    let l = permitted::permitted(battery, DeciCelsius(coldest));
-    print::decimal(out, battery as u64)?;
-    print::text(out, b" ")?;
-    print::signed16(out, coldest)?;
-    print::text(out, b" ")?;
-    print::signed(out, l.0)?;
-    print::text(out, b"\n")
-}
-
-fn rows<W: Write>(out: &mut W, battery: u8) -> io::Result<()> {
-    let mut tenths: u16 = 0;
-    while tenths < 250 {
-        line(out, battery, tenths as i16)?;
-        tenths += 1;
-    }
-    Ok(())
+    let limit = permitted::permitted(battery, DeciCelsius(coldest));
+    writeln!(out, "{battery} {coldest} {}", limit.0)
 }
 
 fn lines<W: Write>(out: &mut W, battery: u8) -> io::Result<()> {
-    line(out, battery, -32_768)?;
-    line(out, battery, -1)?;
-    rows(out, battery)?;
-    line(out, battery, 250)?;
-    line(out, battery, 251)?;
-    line(out, battery, 32_767)
+    line(out, battery, i16::MIN)?;
+    for tenths in -1..252 {
+        line(out, battery, tenths)?;
+    }
+    line(out, battery, i16::MAX)
 }
 
 fn main(rt: HostRuntime) -> io::Result<()> {
     let mut out = rt.stdout();
-    lines(&mut out, 1)?;
-    lines(&mut out, 2)?;
-    lines(&mut out, 3)?;
-    lines(&mut out, 0)?;
-    lines(&mut out, 255)
+    for battery in [1, 2, 3, 0, 255] {
+        lines(&mut out, battery)?;
+    }
+    Ok(())
 }

@@ -12,7 +12,7 @@ use contract.Lifetimes.{Lfts}
 use denote.Ref.{Bor}
 use denote.Triple.Entry.{Args}
 use denote.Triple.Clauses.{AtExit}
-use Rattle.rules.specs.declared.answers.ReadEvent.{ReadEvent}
+use Rattle.rules.specs.declared.calls.Event.{Event}
 use Rattle.rules.specs.Numbers.{answer_of_read_event}
 use Rattle.rules.specs.Bytes.{event_forms}
 use Rattle.reader.specs.declared.Read.{Read}
@@ -20,6 +20,7 @@ use Rattle.reader.specs.contracts.next as next
 use Rattle.event_log.proofs.event_at.Reads as event-at
 use Rattle.rules.specs.Answers.{ReadAllows}
 use Rattle.rules.proofs.Listed.{reading_allows, reader_allows}
+use Rattle.roundtrip.specs.Chains.{ReadResult}
 use Rattle.demands.specs.Reader.{NextAllows}
 
 module _ {M : Type 1} {𝓤 : Ura M} (𝓛 : Logic 𝓤) (mem : Memory → SProp 𝓤) (run : Routine → Fun 𝓤) (κs : Lfts 2) where
@@ -34,6 +35,6 @@ module _ {M : Type 1} {𝓤 : Ura M} (𝓛 : Logic 𝓤) (mem : Memory → SProp
       })
 
 -- `event_at`, for callers that hold no reader
-pub event_at_read : (κs : Lfts 1) (log : Bor (List ℕ)) (position : ℕ) (r : ReadEvent) → event-at.Post κs (log, (position, tt)) r (log, (position, tt))
+pub event_at_read : (κs : Lfts 1) (log : Bor (List ℕ)) (position : ℕ) (r : ReadResult Event) → event-at.Post κs (log, (position, tt)) r (log, (position, tt))
     → ReadAllows position (answer_of_read_event r)
 event_at_read κs log position r allowed = rw allowed (reading_allows event_forms log.now position)

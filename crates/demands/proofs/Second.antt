@@ -5,12 +5,11 @@ use Prim.Native.Nat.{ℕ}
 use contract.Lifetimes.{Lfts}
 use denote.Ref.{Bor}
 use lib.ListN.{take}
+use Rattle.std.specs.Prelude.{Some, Ok}
 use Rattle.rules.specs.declared.states.Contactor.{Contactor}
 use Rattle.rules.specs.declared.calls.Event.{Event}
 use Rattle.rules.specs.declared.stores.Entry.{Entry}
 use Rattle.rules.specs.declared.battery.Record.{Record}
-use Rattle.rules.specs.declared.answers.ReadEvent.TheVariants.{Found as FoundEvent}
-use Rattle.rules.specs.declared.answers.ReadEntry.TheVariants.{Found as FoundEntry}
 use Rattle.rules.specs.Numbers.{bytes}
 use Rattle.rules.specs.Ledger.{accepted}
 use Rattle.rules.specs.Stores.{long_term, short_term}
@@ -67,11 +66,11 @@ module _ (κs : Lfts 1) where
 
   -- ---- "and what is read is written again as the same bytes": one by one, and a log as a whole
 
-  pub event_written_again : (log : Bor (List ℕ)) (at next : ℕ) (e : Event) → (event-reader κs).Allows log at (FoundEvent e next)
+  pub event_written_again : (log : Bor (List ℕ)) (at next : ℕ) (e : Event) → (event-reader κs).Allows log at (Ok (Some (e, next)))
       → WrittenAgain events (event-writer κs) log.now at e next
   event_written_again = event_read_then_written κs
 
-  pub entry_written_again : (log : Bor (List ℕ)) (at next : ℕ) (e : Entry) → (entry-reader κs).Allows log at (FoundEntry e next)
+  pub entry_written_again : (log : Bor (List ℕ)) (at next : ℕ) (e : Entry) → (entry-reader κs).Allows log at (Ok (Some (e, next)))
       → WrittenAgain entries (entry-writer κs) log.now at e next
   entry_written_again = entry_read_then_written κs
 

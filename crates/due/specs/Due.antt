@@ -1,16 +1,9 @@
 -- The protections that are due, by masks: what the code finds of each by its bit, and all of them together.
-use Rattle.std.specs.Prelude.{ℕ, ◌/◌, ◌%◌, Bool, cond, ◌&&◌, List, eqb, get_or}
+use Rattle.std.specs.Prelude.{ℕ, Bool, cond, ◌&&◌, List, get_or}
 use Rattle.rules.specs.declared.units.Milliseconds.{Milliseconds}
 use Rattle.rules.specs.Quantities.{ms, ◌≤ms◌, elapsed}
 use Rattle.rules.specs.Protections.{row_of, mask_below}
 use Rattle.rules.specs.Shown.{bit_of}
-
--- the bit that a weight stands for: 1, 2, 4 ..
-abbrev pub has : ℕ → ℕ → Bool
-has mask weight = eqb (mask / weight % 2) 1
-
-abbrev pub weigh : Bool → ℕ → ℕ
-weigh b weight = cond b weight 0
 
 -- whether the span of a protection has lasted its hold, if it is beyond, or its release time, where that is asked. Neither depends on the
 -- battery type: those of type 1 stand for all.

@@ -1,11 +1,13 @@
 -- The masks that the code makes are those of the eight protections, each tracked by itself.
 use mathlib.Core.Path.{◌≡◌, refl, sym, ap, ◌∙◌}
+use Rattle.std.proofs.Common.{◌≢◌, below_more}
+use Rattle.std.proofs.lemmas.List.{get_or-set_same, get_or-set_other, length-set}
 use mathlib.Core.Bool.{Bool, true, false, not, cond, ◌&&◌, ◌||◌}
 use mathlib.Core.List.{List}
-use Prim.Native.Nat.{ℕ, ◌-◌, ◌<◌}
+use Prim.Native.Nat.{ℕ, ◌+◌, ◌-◌, ◌≤◌, ◌<◌}
 use native.Mathlib.Omega.{arith}
 use lib.Bits.{bit_and, bit_or, or_lt, and_le_l}
-use lib.ListN.{get_or, length}
+use lib.ListN.{get_or, length, set}
 use Rattle.rules.specs.declared.units.Milliseconds.{Milliseconds}
 use Rattle.rules.specs.Lists.{tabulate}
 use Rattle.rules.specs.Quantities.{ms, ◌≤ms◌, elapsed}
@@ -111,6 +113,32 @@ unfolding since_all
 since_none begun t since places e =
     tabulate_places 8 since (ms 0) places
     ∙ tabulate_ext 8 (λ n. get_or since n (ms 0)) (λ n. cond (bit_of begun n) t (get_or since n (ms 0))) (λ n h. rw (e, bit_of_none n))
+
+-- ---- the starts, one after the other: those before a place are as they will be, the others as they were
+
+abbrev pub Begun : ℕ → Milliseconds → List Milliseconds → List Milliseconds → ℕ → Type 0
+Begun begun t since now place =
+    (length now ≡ 8)
+    × ((n : ℕ) → n < place → get_or now n (ms 0) ≡ cond (bit_of begun n) t (get_or since n (ms 0)))
+    × ((n : ℕ) → place ≤ n → get_or now n (ms 0) ≡ get_or since n (ms 0))
+
+module _ (begun : ℕ) (t : Milliseconds) (since now : List Milliseconds) (place : ℕ) (before : Begun begun t since now place) where
+  pub next_begun : (start : Milliseconds) → place < 8 → start ≡ cond (bit_of begun place) t (get_or now place (ms 0))
+      → Begun begun t since (set now place start) (place + 1)
+  next_begun start h is =
+      let below : place < length now = omega (arith, h, before.0) in (
+        length-set now place start ∙ before.0,
+        below_more _ _
+            (λ n l. let other : n ≢ place = omega (arith, l) in get_or-set_other now place n start (ms 0) other ∙ before.1 n l)
+            (get_or-set_same now place start (ms 0) below ∙ is ∙ ap (cond (bit_of begun place) t) (before.2 place (omega arith))),
+        λ n l. let other : n ≢ place = omega (arith, l) in get_or-set_other now place n start (ms 0) other ∙ before.2 n (omega (arith, l)),
+      )
+
+  pub begun_all : place ≡ 8 → now ≡ since_all begun t since
+  unfolding since_all
+  begun_all all =
+      tabulate_places 8 now (ms 0) before.0
+      ∙ tabulate_ext 8 (λ n. get_or now n (ms 0)) (λ n. cond (bit_of begun n) t (get_or since n (ms 0))) (λ n h. before.1 n (omega (arith, h, all)))
 
 -- ---- all eight, by their masks
 

@@ -3,7 +3,7 @@
 #![tactic(auto)]
 
 ghost use Rattle.std.specs.Prelude.{cond, ◌≡◌, ◌<◌};
-ghost use Rattle.due.specs.Due.{has};
+ghost use Rattle.rules.specs.Shown.{bit_of};
 ghost use Rattle.tracking.specs.Masks.{since_all, tracked_by};
 
 use rules::units::Milliseconds;
@@ -19,27 +19,15 @@ pub struct Kept {
 
 // ---- the starts of the spans
 
-// By the bit of a protection's weight.
-fn since_at(begun: u8, weight: u8, t: Milliseconds, since: Milliseconds) -> Milliseconds
-    requires { 0 < weight }
-    ensures { result ≡ cond (has begun weight) t since }
+fn since_at(begun: u8, protection: usize, t: Milliseconds, since: Milliseconds) -> Milliseconds
+    requires { protection < 8 }
+    ensures { result ≡ cond (bit_of begun protection) t since }
 {
-    if begun / weight % 2 == 1 { t } else { since }
-}
-
-fn since_each(begun: u8, t: Milliseconds, since: [Milliseconds; 8]) -> [Milliseconds; 8]
-    ensures { result ≡ since_all begun t since }
-{
-    [
-        since_at(begun, 1, t, since[0]),
-        since_at(begun, 2, t, since[1]),
-        since_at(begun, 4, t, since[2]),
-        since_at(begun, 8, t, since[3]),
-        since_at(begun, 16, t, since[4]),
-        since_at(begun, 32, t, since[5]),
-        since_at(begun, 64, t, since[6]),
-        since_at(begun, 128, t, since[7]),
-    ]
+    if begun >> protection & 1 == 1 {
+        t
+    } else {
+        since
+    }
 }
 
 // Most measurements begin no span.
@@ -49,7 +37,11 @@ fn since_all(begun: u8, t: Milliseconds, since: [Milliseconds; 8]) -> [Milliseco
     if begun == 0 {
         return since;
     }
-    since_each(begun, t, since)
+    let mut starts = since;
+    for (protection, start) in starts.iter_mut().enumerate() {
+        *start = since_at(begun, protection, t, *start);
+    }
+    starts
 }
 
 // ---- all of it
@@ -63,8 +55,7 @@ pub fn track(beyond: u8, within: u8, t: Milliseconds, k: Kept) -> Kept
     let inside = within & !beyond;
     let going = (beyond & k.beyond) | (inside & (k.within & !k.beyond));
     let begun = (beyond | inside) & !going;
-    let before = k.since;
-    let since = since_all(begun, t, before);
+    let since = since_all(begun, t, k.since);
     let asked = (beyond & !k.tripped) | (inside & k.tripped);
     let due = due::due(beyond, asked, t, since);
     Kept {

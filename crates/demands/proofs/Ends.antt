@@ -134,24 +134,24 @@ pub record EveryCallEnds (M : Type 1) : Type 2 where
 -- by what its contract asks, and by its own theorem
 pub each_ends : (M : Type 1) → EveryCallEnds M
 each_ends M = record {
-  fresh = ends_on_all M fresh_contract.signature fresh_proof.Symbol.name fresh_proof.Symbol.code (λ 𝓤 𝓛. fresh_contract.spec 𝓛) (λ 𝓤 𝓛 mem run κs args. (tt, refl)) fresh_proof.Met.met;
-  apply = ends_on_all M apply_contract.signature apply_proof.Symbol.name apply_proof.Symbol.code (λ 𝓤 𝓛. apply_contract.spec 𝓛) (λ 𝓤 𝓛 mem run κs args. (tt, refl)) apply_proof.Met.met;
-  rest_sound = ends_on_all M rest_sound_contract.signature rest_sound_proof.Symbol.name rest_sound_proof.Symbol.code (λ 𝓤 𝓛. rest_sound_contract.spec 𝓛) (λ 𝓤 𝓛 mem run κs args. (tt, refl)) rest_sound_proof.Met.met;
-  judge_tested = ends_on_all M judge_tested_contract.signature judge_tested_proof.Symbol.name judge_tested_proof.Symbol.code (λ 𝓤 𝓛. judge_tested_contract.spec 𝓛) (λ 𝓤 𝓛 mem run κs args. (tt, refl)) judge_tested_proof.Met.met;
-  judge = ends_on_all M judge_contract.signature judge_proof.Symbol.name judge_proof.Symbol.code (λ 𝓤 𝓛. judge_contract.spec 𝓛) (λ 𝓤 𝓛 mem run κs args. (tt, refl)) judge_proof.Met.met;
-  write_stores = ends_on_all M write_stores_contract.signature write_stores_proof.Symbol.name write_stores_proof.Symbol.code (λ 𝓤 𝓛. write_stores_contract.spec 𝓛) (λ 𝓤 𝓛 mem run κs args. (tt, refl)) write_stores_proof.Met.met;
-  sound = ends_on_all M sound_contract.signature sound_proof.Symbol.name sound_proof.Symbol.code (λ 𝓤 𝓛. sound_contract.spec 𝓛) (λ 𝓤 𝓛 mem run κs args. (tt, refl)) sound_proof.Met.met;
-  contactor = ends_on_all M contactor_contract.signature contactor_proof.Symbol.name contactor_proof.Symbol.code (λ 𝓤 𝓛. contactor_contract.spec 𝓛) (λ 𝓤 𝓛 mem run κs args. (tt, refl)) contactor_proof.Met.met;
-  read_event = ends_on_all M read_event_contract.signature read_event_proof.Symbol.name read_event_proof.Symbol.code (λ 𝓤 𝓛. read_event_contract.spec 𝓛) (λ 𝓤 𝓛 mem run κs args. (tt, refl)) read_event_proof.Met.met;
-  read_entry = ends_on_all M read_entry_contract.signature read_entry_proof.Symbol.name read_entry_proof.Symbol.code (λ 𝓤 𝓛. read_entry_contract.spec 𝓛) (λ 𝓤 𝓛 mem run κs args. (tt, refl)) read_entry_proof.Met.met;
-  write_event = ends_on_all M write_event_contract.signature write_event_proof.Symbol.name write_event_proof.Symbol.code (λ 𝓤 𝓛. write_event_contract.spec 𝓛) (λ 𝓤 𝓛 mem run κs args. (tt, refl)) write_event_proof.Met.met;
-  write_entry = ends_on_all M write_entry_contract.signature write_entry_proof.Symbol.name write_entry_proof.Symbol.code (λ 𝓤 𝓛. write_entry_contract.spec 𝓛) (λ 𝓤 𝓛 mem run κs args. (tt, refl)) write_entry_proof.Met.met;
-  export_long = ends_on_all M export_long_contract.signature export_long_proof.Symbol.name export_long_proof.Symbol.code (λ 𝓤 𝓛. export_long_contract.spec 𝓛) (λ 𝓤 𝓛 mem run κs args. (tt, refl)) export_long_proof.Met.met;
-  export_short = ends_on_all M export_short_contract.signature export_short_proof.Symbol.name export_short_proof.Symbol.code (λ 𝓤 𝓛. export_short_contract.spec 𝓛) (λ 𝓤 𝓛 mem run κs args. (tt, refl)) export_short_proof.Met.met;
-  reader_starting_at = ends_on_all M reader_starting_at_contract.signature reader_starting_at_proof.Symbol.name reader_starting_at_proof.Symbol.code (λ 𝓤 𝓛. reader_starting_at_contract.spec 𝓛) (λ 𝓤 𝓛 mem run κs args. (tt, refl)) reader_starting_at_proof.Met.met;
-  reader_peek = ends_on_all M reader_peek_contract.signature reader_peek_proof.Symbol.name reader_peek_proof.Symbol.code (λ 𝓤 𝓛. reader_peek_contract.spec 𝓛) (λ 𝓤 𝓛 mem run κs args. (tt, refl)) reader_peek_proof.Met.met;
-  reader_next = ends_on_all M reader_next_contract.signature reader_next_proof.Symbol.name reader_next_proof.Symbol.code (λ 𝓤 𝓛. reader_next_contract.spec 𝓛) (λ 𝓤 𝓛 mem run κs args. (tt, refl)) reader_next_proof.Met.met;
-  reader_rest = ends_on_all M reader_rest_contract.signature reader_rest_proof.Symbol.name reader_rest_proof.Symbol.code (λ 𝓤 𝓛. reader_rest_contract.spec 𝓛) (λ 𝓤 𝓛 mem run κs args. (tt, refl)) reader_rest_proof.Met.met;
-  event_at = ends_on_all M event_at_contract.signature event_at_proof.Symbol.name event_at_proof.Symbol.code (λ 𝓤 𝓛. event_at_contract.spec 𝓛) (λ 𝓤 𝓛 mem run κs args. (tt, refl)) event_at_proof.Met.met;
-  apply_block = ends_on_all M apply_block_contract.signature apply_block_proof.Symbol.name apply_block_proof.Symbol.code (λ 𝓤 𝓛. apply_block_contract.spec 𝓛) (λ 𝓤 𝓛 mem run κs args. (tt, refl)) apply_block_proof.Met.met;
+  fresh = ends_on_all _ _ _ _ _ (λ 𝓤 𝓛 mem run κs args. (tt, refl)) fresh_proof.Met.met;
+  apply = ends_on_all _ _ _ _ _ (λ 𝓤 𝓛 mem run κs args. (tt, refl)) apply_proof.Met.met;
+  rest_sound = ends_on_all _ _ _ _ _ (λ 𝓤 𝓛 mem run κs args. (tt, refl)) rest_sound_proof.Met.met;
+  judge_tested = ends_on_all _ _ _ _ _ (λ 𝓤 𝓛 mem run κs args. (tt, refl)) judge_tested_proof.Met.met;
+  judge = ends_on_all _ _ _ _ _ (λ 𝓤 𝓛 mem run κs args. (tt, refl)) judge_proof.Met.met;
+  write_stores = ends_on_all _ _ _ _ _ (λ 𝓤 𝓛 mem run κs args. (tt, refl)) write_stores_proof.Met.met;
+  sound = ends_on_all _ _ _ _ _ (λ 𝓤 𝓛 mem run κs args. (tt, refl)) sound_proof.Met.met;
+  contactor = ends_on_all _ _ _ _ _ (λ 𝓤 𝓛 mem run κs args. (tt, refl)) contactor_proof.Met.met;
+  read_event = ends_on_all _ _ _ _ _ (λ 𝓤 𝓛 mem run κs args. (tt, refl)) read_event_proof.Met.met;
+  read_entry = ends_on_all _ _ _ _ _ (λ 𝓤 𝓛 mem run κs args. (tt, refl)) read_entry_proof.Met.met;
+  write_event = ends_on_all _ _ _ _ _ (λ 𝓤 𝓛 mem run κs args. (tt, refl)) write_event_proof.Met.met;
+  write_entry = ends_on_all _ _ _ _ _ (λ 𝓤 𝓛 mem run κs args. (tt, refl)) write_entry_proof.Met.met;
+  export_long = ends_on_all _ _ _ _ _ (λ 𝓤 𝓛 mem run κs args. (tt, refl)) export_long_proof.Met.met;
+  export_short = ends_on_all _ _ _ _ _ (λ 𝓤 𝓛 mem run κs args. (tt, refl)) export_short_proof.Met.met;
+  reader_starting_at = ends_on_all _ _ _ _ _ (λ 𝓤 𝓛 mem run κs args. (tt, refl)) reader_starting_at_proof.Met.met;
+  reader_peek = ends_on_all _ _ _ _ _ (λ 𝓤 𝓛 mem run κs args. (tt, refl)) reader_peek_proof.Met.met;
+  reader_next = ends_on_all _ _ _ _ _ (λ 𝓤 𝓛 mem run κs args. (tt, refl)) reader_next_proof.Met.met;
+  reader_rest = ends_on_all _ _ _ _ _ (λ 𝓤 𝓛 mem run κs args. (tt, refl)) reader_rest_proof.Met.met;
+  event_at = ends_on_all _ _ _ _ _ (λ 𝓤 𝓛 mem run κs args. (tt, refl)) event_at_proof.Met.met;
+  apply_block = ends_on_all _ _ _ _ _ (λ 𝓤 𝓛 mem run κs args. (tt, refl)) apply_block_proof.Met.met;
 }

@@ -1,5 +1,4 @@
 pub mod Answers
-pub mod LastLine
 pub mod Turns
 pub mod Whole
 pub mod Joined

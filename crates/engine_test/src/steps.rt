@@ -4,10 +4,10 @@
 ghost use Rattle.std.specs.Prelude.{◌≡◌, drop, IfOk};
 ghost use Rattle.rules.specs.Bytes.{next_position};
 
-use rules::answers::ReadEvent;
+use rules::answers::ReadResult;
+use rules::calls::Event;
 use std::io;
 use std::io::Write;
-use testing::print;
 
 fn rest_at(log: &[u8], position: usize) -> &[u8]
     ensures { result.now ≡ drop position log.now }
@@ -15,42 +15,29 @@ fn rest_at(log: &[u8], position: usize) -> &[u8]
     reader::rest(reader::starting_at(log, position))
 }
 
-fn print_answer<W: Write>(out: &mut W, a: ReadEvent) -> io::Result<()> {
+fn print_answer<W: Write>(out: &mut W, a: ReadResult<Event>) -> io::Result<()> {
     match a {
-        ReadEvent::Found(_, next) => {
-            print::text(out, b"found, next ")?;
-            print::decimal(out, next as u64)?;
-        }
-        ReadEvent::End => print::text(out, b"end")?,
-        ReadEvent::Refused(refusal, at) => {
-            print::text(out, b"refused ")?;
-            print::decimal(out, refusal as u64)?;
-            print::text(out, b" at ")?;
-            print::decimal(out, at as u64)?;
-        }
+        Ok(Some((_, next))) => write!(out, "found, next {next}"),
+        Ok(None) => write!(out, "end"),
+        Err(why) => write!(out, "refused {} at {}", u8::from(why.refusal), why.position),
     }
-    Ok(())
 }
 
 // A reader put where this one stands has a remainder of the same length.
 fn print_read<'a, W: Write>(
     out: &mut W,
     log: &'a [u8],
-    a: ReadEvent,
+    a: ReadResult<Event>,
     position: usize,
     rest: &'a [u8],
 ) -> io::Result<()> {
     print_answer(out, a)?;
-    print::text(out, b", position ")?;
-    print::decimal(out, position as u64)?;
-    print::text(out, b", rest ")?;
-    print::decimal(out, rest.len() as u64)?;
+    write!(out, ", position {position}, rest {}", rest.len())?;
     let other = rest_at(log, position);
     if other.len() != rest.len() {
-        print::text(out, b", but from there ")?;
-        print::decimal(out, other.len() as u64)?;
+        write!(out, ", but from there {}", other.len())?;
     }
-    print::text(out, b"\n")
+    writeln!(out)
 }
 
 // One call gives the answer and the remainder, and moves the reader.
@@ -65,15 +52,9 @@ fn step<W: Write>(out: &mut W, log: &[u8], position: usize) -> io::Result<usize>
 
 // The events stand after the type byte.
 pub fn run<W: Write>(out: &mut W, log: &[u8]) -> io::Result<()> {
-    let a = step(out, log, 1)?;
-    let b = step(out, log, a)?;
-    let c = step(out, log, b)?;
-    let d = step(out, log, c)?;
-    let e = step(out, log, d)?;
-    let f = step(out, log, e)?;
-    let g = step(out, log, f)?;
-    let h = step(out, log, g)?;
-    let i = step(out, log, h)?;
-    step(out, log, i)?;
+    let mut position = 1;
+    for _ in 0..10 {
+        position = step(out, log, position)?;
+    }
     Ok(())
 }

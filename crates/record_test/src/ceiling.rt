@@ -6,35 +6,34 @@ use rules::limits::COMMAND_CEILING;
 use rules::units::Milliseconds;
 use std::io;
 use std::io::Write;
-use testing::print;
 
 pub fn run<W: Write>(out: &mut W) -> io::Result<()> {
     let t = Milliseconds(1_000);
     let r = edit::commands(COMMAND_CEILING - 1);
-    print::text(out, b"ceiling\n")?;
-    let a = limits::call(out, b"open ", r, Event::ContactorCommand(t, Command::Open))?;
-    print::text(out, b"\n")?;
+    writeln!(out, "ceiling")?;
+    let a = limits::call(out, "open ", r, Event::ContactorCommand(t, Command::Open))?;
+    writeln!(out)?;
     record_text::print(out, a, engine::contactor(a))?;
     limits::call(
         out,
-        b"automated ",
+        "automated ",
         a,
         Event::ContactorCommand(t, Command::Automated),
     )?;
-    limits::call(out, b", override ", a, Event::BattleOverride(t, true))?;
+    limits::call(out, ", override ", a, Event::BattleOverride(t, true))?;
     let b = limits::call(
         out,
-        b", maintenance ",
+        ", maintenance ",
         a,
         Event::StateRequest(t, Request::Maintenance),
     )?;
     limits::call(
         out,
-        b", force closed ",
+        ", force closed ",
         b,
         Event::ContactorCommand(t, Command::ForceClosed),
     )?;
-    let c = limits::call(out, b", power loss ", b, Event::PowerLoss(t))?;
-    print::text(out, b"\n")?;
+    let c = limits::call(out, ", power loss ", b, Event::PowerLoss(t))?;
+    writeln!(out)?;
     record_text::print(out, c, engine::contactor(c))
 }

@@ -1,176 +1,91 @@
 // Records that differ from a sound one in one place. No list of calls leaves most of them.
-use rules::battery::{Control, Live, Record, Tally};
-use rules::limits::{LONG_TERM_ENTRIES, SHORT_TERM_ENTRIES};
-use rules::session::{Previous, Watch};
+use rules::battery::Record;
 use rules::states::State;
-use rules::stores::{LongTerm, ShortTerm, Stores};
 use rules::units::{Charge, Milliamperes, Milliseconds};
 
-// Type 1, Operational, its last time 1,000 ms, all else as in a fresh record.
-fn base() -> Live {
-    let f = engine::fresh(1);
-    let r = f.start;
-    let l = r.live;
-    let c = l.control;
-    let control = Control {
-        state: State::Operational,
-        ..c
-    };
-    Live {
-        last: Milliseconds(1000),
-        control,
-        ..l
-    }
-}
-
-fn no_entries() -> Stores {
-    let f = engine::fresh(1);
-    let r = f.start;
-    r.stores
-}
-
-fn with_live(live: Live) -> Record {
-    Record {
-        live,
-        stores: no_entries(),
-    }
+// Type 1, Operational, its last time 1,000 ms, no entries, all else as in a fresh record; then changed.
+fn with<F: FnOnce(&mut Record)>(change: F) -> Record
+    requires { F.IsAlwaysCallable change }
+{
+    let mut r = engine::fresh(1).start;
+    r.live.last = Milliseconds(1_000);
+    r.live.control.state = State::Operational;
+    change(&mut r);
+    r
 }
 
 pub fn battery(n: u8) -> Record {
-    let l = base();
-    with_live(Live { battery: n, ..l })
+    with(|r| r.live.battery = n)
 }
 
 pub fn last(t: u32) -> Record {
-    let l = base();
-    with_live(Live {
-        last: Milliseconds(t),
-        ..l
-    })
-}
-
-fn with_tally(tally: Tally) -> Record {
-    let l = base();
-    with_live(Live { tally, ..l })
+    with(|r| r.live.last = Milliseconds(t))
 }
 
 pub fn accounts(charged: u64, discharged: u64) -> Record {
-    with_tally(Tally {
-        commands: 0,
-        charged: Charge(charged),
-        discharged: Charge(discharged),
+    with(|r| {
+        r.live.tally.charged = Charge(charged);
+        r.live.tally.discharged = Charge(discharged);
     })
 }
 
 pub fn commands(n: u32) -> Record {
-    with_tally(Tally {
-        commands: n,
-        charged: Charge(0),
-        discharged: Charge(0),
-    })
-}
-
-fn base_watch() -> Watch {
-    let l = base();
-    l.watch
-}
-
-fn with_watch(watch: Watch) -> Record {
-    let l = base();
-    with_live(Live { watch, ..l })
+    with(|r| r.live.tally.commands = n)
 }
 
 pub fn mask(mask: u16) -> Record {
-    let w = base_watch();
-    with_watch(Watch { mask, ..w })
+    with(|r| r.live.watch.mask = mask)
 }
 
 pub fn previous(t: u32, i: i32) -> Record {
-    let w = base_watch();
-    let previous = Previous::Frame(Milliseconds(t), Milliamperes(i));
-    with_watch(Watch { previous, ..w })
+    with(|r| r.live.watch.previous = Some((Milliseconds(t), Milliamperes(i))))
 }
 
 // In a mask with bit = number; 0 for a number that has no protection.
 fn weight(protection: usize) -> u8 {
-    match protection {
-        0 => 1,
-        1 => 2,
-        2 => 4,
-        3 => 8,
-        4 => 16,
-        5 => 32,
-        6 => 64,
-        7 => 128,
-        _ => 0,
-    }
+    if protection < 8 { 1 << protection } else { 0 }
 }
 
-fn since(protection: usize, start: Milliseconds) -> [Milliseconds; 8] {
+fn since(protection: usize, start: u32) -> [Milliseconds; 8] {
     let mut since = [Milliseconds(0); 8];
     if protection < 8 {
-        since[protection] = start;
+        since[protection] = Milliseconds(start);
     }
     since
 }
 
 // A protection with a beyond span; a number that has no protection leaves the record as it is.
 pub fn beyond(protection: usize, start: u32) -> Record {
-    let w = base_watch();
-    with_watch(Watch {
-        beyond: weight(protection),
-        since: since(protection, Milliseconds(start)),
-        ..w
+    with(|r| {
+        r.live.watch.beyond = weight(protection);
+        r.live.watch.since = since(protection, start);
     })
 }
 
 pub fn within(protection: usize, start: u32) -> Record {
-    let w = base_watch();
-    with_watch(Watch {
-        within: weight(protection),
-        since: since(protection, Milliseconds(start)),
-        ..w
+    with(|r| {
+        r.live.watch.within = weight(protection);
+        r.live.watch.since = since(protection, start);
     })
-}
-
-fn with_stores(stores: Stores) -> Record {
-    Record {
-        live: base(),
-        stores,
-    }
 }
 
 // Long-term entries of protection 0 at 0 ms, save one place that holds another protection.
 pub fn long(count: usize, place: usize, protection: u8) -> Record {
-    let s = no_entries();
-    let f = s.long;
-    let mut protections = f.protections;
-    if place < LONG_TERM_ENTRIES {
-        protections[place] = protection;
-    }
-    let long = LongTerm {
-        protections,
-        count,
-        ..f
-    };
-    with_stores(Stores { long, ..s })
+    with(|r| {
+        if place < r.stores.long.protections.len() {
+            r.stores.long.protections[place] = protection;
+        }
+        r.stores.long.count = count;
+    })
 }
 
 // The same of the short-term store; the entry in that place is a release.
 pub fn short(count: usize, place: usize, protection: u8) -> Record {
-    let s = no_entries();
-    let f = s.short;
-    let mut protections = f.protections;
-    let mut releases = f.releases;
-    if place < SHORT_TERM_ENTRIES {
-        protections[place] = protection;
-        releases[place] = true;
-    }
-    let short = ShortTerm {
-        protections,
-        releases,
-        count,
-        ..f
-    };
-    with_stores(Stores { short, ..s })
+    with(|r| {
+        if place < r.stores.short.protections.len() {
+            r.stores.short.protections[place] = protection;
+            r.stores.short.releases[place] = true;
+        }
+        r.stores.short.count = count;
+    })
 }

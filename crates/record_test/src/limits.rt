@@ -2,112 +2,86 @@
 // says whether the record is sound, what two calls answer (a power loss, which a sound record accepts, and a power on at 0 ms, which is
 // early), whether a refused call leaves the record as it was, and what both exports answer, with whether the buffer holds what it held
 // after the bytes written.
-ghost use Rattle.std.specs.Prelude.{◌≡◌, length};
-ghost use Rattle.record_test.specs.Verdicts.{filled_to};
+ghost use Rattle.std.specs.Prelude.{◌≡◌, ◌<◌, ◌^◌, eqb};
+ghost use Rattle.std.specs.List.{list_all};
 
-use crate::{compare, edit};
-use rules::answers::Written;
+use crate::edit;
 use rules::battery::Record;
 use rules::calls::Event;
 use rules::limits::{LONG_TERM_ENTRIES, SHORT_TERM_ENTRIES};
+use rules::refusals::Refusal;
 use rules::units::Milliseconds;
 use std::io;
 use std::io::Write;
-use testing::table::Next;
-use testing::{print, slice, table};
+use testing::slice;
+use testing::table::Cases;
 
 // Of the byte that every buffer is filled with.
 fn untouched(s: &[u8]) -> bool
-    ensures { result ≡ filled_to (length s.now) s.now }
+    ensures { result ≡ list_all (λ byte. eqb byte 0xee) s.now }
 {
-    let mut same = true;
-    let mut i = 0;
-    while i < s.len() {
-        same = same & (s[i] == 0xee);
-        i += 1;
-    }
-    same
+    s.iter().all(|byte| *byte == 0xee)
 }
 
-fn print_kept<W: Write>(out: &mut W, kept: bool) -> io::Result<()> {
-    if kept {
-        print::text(out, b" kept")?;
-    } else {
-        print::text(out, b" CHANGED")?;
-    }
-    Ok(())
+fn kept(s: &[u8]) -> &'static str {
+    if untouched(s) { "kept" } else { "CHANGED" }
 }
 
-fn print_written<W: Write>(out: &mut W, w: Written, buffer: &[u8]) -> io::Result<()> {
-    match w {
-        Written::Bytes(n) => {
-            print::decimal(out, n as u64)?;
-            print_kept(out, untouched(slice::part(buffer, n, buffer.len())))?;
+// What an export into a buffer of so many bytes answers, and whether the buffer holds what it held, behind those that were written.
+fn export_into<const N: usize, W: Write, F: FnOnce(&mut [u8]) -> Result<usize, Refusal>>(
+    out: &mut W,
+    name: &str,
+    export: F,
+) -> io::Result<()>
+    requires callable { F.IsAlwaysCallable export }
+    requires size { N < 2 ^ 63 }
+{
+    let mut buffer = [0xee; N];
+    match export(&mut buffer) {
+        Ok(n) => {
+            let behind = slice::part(&buffer, n, N);
+            write!(out, ", {name} {n} {}", kept(behind))
         }
-        Written::Refused(refusal) => {
-            print::text(out, b"refused ")?;
-            print::decimal(out, refusal as u64)?;
-            print_kept(out, untouched(buffer))?;
+        Err(refusal) => {
+            let number = u8::from(refusal);
+            write!(out, ", {name} refused {number} {}", kept(&buffer))
         }
     }
-    Ok(())
 }
 
-fn long_into<W: Write>(out: &mut W, r: Record, buffer: &mut [u8]) -> io::Result<()> {
-    print::text(out, b", long ")?;
-    print_written(out, export::export_long(r, buffer), buffer)
-}
-
-fn short_into<W: Write>(out: &mut W, r: Record, buffer: &mut [u8]) -> io::Result<()> {
-    print::text(out, b", short ")?;
-    print_written(out, export::export_short(r, buffer), buffer)
-}
-
-fn exports<W: Write>(out: &mut W, r: Record) -> io::Result<()> {
-    let mut long = [0xeeu8; 700];
-    let mut short = [0xeeu8; 200];
-    long_into(out, r, &mut long)?;
-    short_into(out, r, &mut short)?;
-    print::text(out, b"\n")
-}
-
-// The answer of a call; where it is refused, whether the record is as it was.
-pub fn call<W: Write>(out: &mut W, name: &[u8], r: Record, e: Event) -> io::Result<Record> {
-    let o = engine::apply(r, e);
-    print::text(out, name)?;
-    print::decimal(out, o.refusal as u64)?;
-    if o.refusal != 0 {
-        print_kept(out, compare::same(r, o.after))?;
+// The answer of a call. A refused one gives no record, so that the one before it is kept.
+pub fn call<W: Write>(out: &mut W, name: &str, r: Record, e: Event) -> io::Result<Record> {
+    match engine::apply(r, e) {
+        Ok(after) => {
+            write!(out, "{name}0")?;
+            Ok(after)
+        }
+        Err(refusal) => {
+            write!(out, "{name}{} kept", u8::from(refusal))?;
+            Ok(r)
+        }
     }
-    Ok(o.after)
 }
 
 // The rest of a line that begins with the record's name.
 fn judge<W: Write>(out: &mut W, r: Record) -> io::Result<()> {
-    if engine::sound(r) {
-        print::text(out, b": sound")?;
-    } else {
-        print::text(out, b": unsound")?;
-    }
-    let l = r.live;
-    let t = l.last;
-    call(out, b", power loss ", r, Event::PowerLoss(t))?;
-    call(
-        out,
-        b", early power on ",
-        r,
-        Event::PowerOn(Milliseconds(0)),
-    )?;
-    exports(out, r)
+    let verdict = if engine::sound(r) { "sound" } else { "unsound" };
+    write!(out, ": {verdict}")?;
+    call(out, ", power loss ", r, Event::PowerLoss(r.live.last))?;
+    call(out, ", early power on ", r, Event::PowerOn(Milliseconds(0)))?;
+    export_into::<700, _, _>(out, "long", |buffer| export::export_long(r, buffer))?;
+    export_into::<200, _, _>(out, "short", |buffer| export::export_short(r, buffer))?;
+    writeln!(out)
 }
 
 // The sound record with one thing changed, by the eight bytes of a case: what is changed, a place, a small number, the length of the
 // case's name, and a number of four bytes.
+// Kept: a byte for what is changed, matched here alone; an enum would need this match in a TryFrom and another at its use.
 fn changed(head: &[u8]) -> Record {
     let place = slice::byte(head, 1);
     let small = word_reader::byte_at(head, 2);
     let n = word_reader::u32_at(head, 4);
-    match word_reader::byte_at(head, 0) {
+    match slice::byte(head, 0) {
         0 => edit::battery(small),
         1 => edit::last(n),
         2 => edit::accounts(n as u64, 0),
@@ -122,43 +96,23 @@ fn changed(head: &[u8]) -> Record {
     }
 }
 
-fn case<W: Write>(out: &mut W, head: &[u8], name: &[u8]) -> io::Result<()> {
-    print::text(out, name)?;
-    judge(out, changed(head))
-}
-
-// The name stands after the eight bytes.
-fn cases<W: Write>(out: &mut W, table: &[u8]) -> io::Result<()> {
-    let mut at: usize = 0;
-    while at < table.len() {
-        let Next::Case(start, end) = table::case_at(table, at, 8) else {
-            return Ok(());
-        };
-        case(
-            out,
-            slice::part(table, at, start),
-            slice::part(table, start, end),
-        )?;
-        at = end;
-    }
-    Ok(())
-}
-
 // A sound record's exports into buffers that are just long enough, and one byte shorter.
 fn buffers<W: Write>(out: &mut W) -> io::Result<()> {
-    let mut long = [0xeeu8; 640];
-    let mut less_long = [0xeeu8; 639];
-    let mut short = [0xeeu8; 156];
-    let mut less_short = [0xeeu8; 155];
-    print::text(out, b"buffers")?;
-    long_into(out, edit::long(LONG_TERM_ENTRIES, 0, 0), &mut long)?;
-    long_into(out, edit::long(LONG_TERM_ENTRIES, 0, 0), &mut less_long)?;
-    short_into(out, edit::short(SHORT_TERM_ENTRIES, 0, 0), &mut short)?;
-    short_into(out, edit::short(SHORT_TERM_ENTRIES, 0, 0), &mut less_short)?;
-    print::text(out, b"\n")
+    let long = edit::long(LONG_TERM_ENTRIES, 0, 0);
+    let short = edit::short(SHORT_TERM_ENTRIES, 0, 0);
+    write!(out, "buffers")?;
+    export_into::<640, _, _>(out, "long", |buffer| export::export_long(long, buffer))?;
+    export_into::<639, _, _>(out, "long", |buffer| export::export_long(long, buffer))?;
+    export_into::<156, _, _>(out, "short", |buffer| export::export_short(short, buffer))?;
+    export_into::<155, _, _>(out, "short", |buffer| export::export_short(short, buffer))?;
+    writeln!(out)
 }
 
+// A case's name stands after the eight bytes.
 pub fn run<W: Write>(out: &mut W, table: &[u8]) -> io::Result<()> {
-    cases(out, table)?;
+    for (head, name) in Cases::of(table, 8) {
+        out.write_all(name)?;
+        judge(out, changed(head))?;
+    }
     buffers(out)
 }

@@ -3,7 +3,6 @@
 #![tactic(auto)]
 
 mod ceiling;
-mod compare;
 mod edit;
 mod limits;
 
@@ -11,9 +10,8 @@ use std::io;
 use testing::files;
 
 fn main(rt: HostRuntime) -> io::Result<()> {
-    let mut table = [0u8; 65_536];
+    let mut table = [0; 65_536];
     let mut out = rt.stdout();
-    let n = files::read_full(&mut rt.stdin(), &mut table);
-    limits::run(&mut out, &table[..n])?;
+    limits::run(&mut out, files::read_full(&mut rt.stdin(), &mut table))?;
     ceiling::run(&mut out)
 }

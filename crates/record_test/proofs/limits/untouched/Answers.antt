@@ -1,12 +1,8 @@
-use Rattle.std.proofs.Common.{◌≡◌, length, arith}
-use Rattle.record_test.proofs.Filling.{filled_more}
+use Rattle.std.proofs.Common.{rules, tests, eqb}
+use Rattle.std.proofs.lemmas.Iterator.{YieldsList-from_slice}
+use Rattle.std.proofs.lemmas.Iterator.Search.{all_from_yields_List}
 use Rattle.record_test.proofs.limits.untouched.Goals as goal
-
-pub loop-i-preserved : goal.loop-i-preserved
-loop-i-preserved c =
-    (omega arith, filled_more c.args.s.now c.loop-i.i c.loop-i.same c.loop-i.invariant.1)
 
 pub returns : goal.returns
 returns c =
-    let end : c.loop-i.i ≡ length c.args.s.now = omega arith in
-    rw (← end) c.loop-i.invariant.1
+    all_from_yields_List (λ byte. eqb byte 0xee) _ _ c.all.result c.all.ensures.ran (YieldsList-from_slice c.args.s.now cc) (λ x b q k. search (rules, tests))

@@ -36,11 +36,15 @@ fn enters_dormant(s: State, q: Request) -> bool
 pub fn request(t: Milliseconds, q: Request, l: Live) -> Live
     ensures { result ≡ set_live t (request_control q l.control) l.tally l }
 {
-    let Control { state, command, overriding } = l.control;
+    let c = l.control;
     let control = Control {
         state: state_named(q),
-        command: if is_change(state, q) { Command::Automated } else { command },
-        overriding: !enters_dormant(state, q) && overriding,
+        command: if is_change(c.state, q) {
+            Command::Automated
+        } else {
+            c.command
+        },
+        overriding: !enters_dormant(c.state, q) && c.overriding,
     };
     Live {
         last: t,

@@ -33,14 +33,21 @@ fn previous_of(plausible: bool, t: Milliseconds, i: Milliamperes) -> Previous
 fn test_of(plausible: bool) -> TestResult
     ensures { result ≡ cond plausible Passed TestFailed }
 {
-    if plausible { TestResult::Passed } else { TestResult::Failed }
+    if plausible {
+        TestResult::Passed
+    } else {
+        TestResult::Failed
+    }
 }
 
 // No sensor of a plausible measurement failed: its mask is not computed.
 fn mask_of(plausible: bool, r: Reading) -> u16
     ensures { result ≡ cond plausible 0 (failed_mask r) }
 {
-    if plausible { 0 } else { reading::failed_mask(r) }
+    if plausible {
+        return 0;
+    }
+    reading::failed_mask(r)
 }
 
 // Nor are its failed sensors counted.
@@ -65,8 +72,13 @@ fn if_plausible(plausible: bool, side: u8) -> u8
 fn kept(w: Watch) -> Kept
     ensures { result ≡ kept_by w }
 {
-    let Watch { tripped, beyond, within, since, .. } = w;
-    Kept { tripped, beyond, within, since }
+    let since = w.since;
+    Kept {
+        tripped: w.tripped,
+        beyond: w.beyond,
+        within: w.within,
+        since,
+    }
 }
 
 // Every protection is in a within span, and none is tripped.
@@ -115,12 +127,13 @@ fn examine(calm: bool, battery: u8, r: Reading) -> Seen
 fn watched(s: Seen, t: Milliseconds, i: Milliamperes, w: Watch) -> Watch
     ensures { result ≡ watched_by s t i w }
 {
-    let Kept { tripped, beyond, within, since } = tracking::track(s.beyond, s.within, t, kept(w));
+    let k = tracking::track(s.beyond, s.within, t, kept(w));
+    let since = k.since;
     Watch {
         test: test_of(s.plausible),
-        tripped,
-        beyond,
-        within,
+        tripped: k.tripped,
+        beyond: k.beyond,
+        within: k.within,
         mask: s.mask,
         failed: count_of(s.mask),
         previous: previous_of(s.plausible, t, i),

@@ -10,7 +10,7 @@ returns-in-Some c =
     c.elapsed-d.ensures c.inflow-gained.ensures.is c.outflow-lost.ensures.is
 
 pub returns-in_default : goal.returns-in_default
-returns-in_default c = 
+returns-in_default c =
     let v = c.args in
     not_charged v.previous v.plausible v.t v.i v.n c.in-Some.start c.in-Some.earlier c.in-Some.is c.if-plausible.false
 

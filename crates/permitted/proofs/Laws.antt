@@ -1,30 +1,27 @@
 -- The permitted current on either side of 0 °C, and its bound.
-use Prim.Native.Nat.{ℕ, ◌≤◌}
-use mathlib.Core.Path.{◌≡◌, refl, subst}
+use Prim.Native.Nat.{ℕ, ◌≤◌, ◌<◌}
+use mathlib.Core.Path.{◌≡◌, refl}
 use mathlib.Core.Bool.{Bool, true, false, cond}
 use native.Mathlib.Omega.{arith}
 use borrow.Author.Tests.{ltb-true}
-use lib.Dec.{T, ltb, eqb}
+use lib.Dec.{ltb, eqb}
 use lib.IntN.{ℤ, pos, negsuc, nat_abs}
-use lib.Signed.{lt_z, mag, non_neg}
+use lib.Signed.{mag}
+use Rattle.std.specs.Int.{FitsUnsignedBits}
 use Rattle.rules.specs.declared.units.DeciCelsius.{DeciCelsius}
 use Rattle.rules.specs.declared.units.Milliamperes.{Milliamperes}
 use Rattle.rules.specs.Quantities.{ma, charge_rating}
 use Rattle.rules.specs.Protections.{curve, permitted_at, permitted}
 use Rattle.curve.proofs.Fifty.{curve_small}
 
-pub not_negative : (c : ℤ) → lt_z c (pos 0) ≡ false → T (non_neg c)
-not_negative (pos n) e = tt
-not_negative (negsuc n) e = subst T e tt
+pub below_zero : (rating : ℕ) (c : ℤ) → mag c < 32_768 → (FitsUnsignedBits 64 c → ⊥) → 0 ≡ permitted_at rating c
+below_zero rating (pos n) small not = absurd (not (omega (arith, small)))
+below_zero rating (negsuc n) small not = refl
 
-pub below_zero : (rating : ℕ) (c : ℤ) → lt_z c (pos 0) ≡ true → 0 ≡ permitted_at rating c
-below_zero rating (pos n) e = absurd (omega (arith, ltb-true n 0 e))
-below_zero rating (negsuc n) e = refl
-
-pub from_zero : (rating : ℕ) (c : ℤ) (l : Milliamperes) → lt_z c (pos 0) ≡ false → l ≡ ma (pos (permitted_at rating (pos (nat_abs c))))
+pub from_zero : (rating : ℕ) (c : ℤ) (l : Milliamperes) → FitsUnsignedBits 64 c → l ≡ ma (pos (permitted_at rating (pos (nat_abs c))))
     → l ≡ ma (pos (permitted_at rating c))
-from_zero rating (pos n) l e l-is = l-is
-from_zero rating (negsuc n) l e l-is = absurd (subst T e tt)
+from_zero rating (pos n) l fits l-is = l-is
+from_zero rating (negsuc n) l fits l-is = absurd fits
 
 -- ---- no rating, and no row, is above 90,000
 

@@ -11,15 +11,10 @@ use rules::units::{DeciCelsius, Milliamperes};
 pub fn permitted(battery: u8, coldest: DeciCelsius) -> Milliamperes
     ensures { result ≡ permitted battery coldest }
 {
-    let c = coldest.0;
-    if c < 0 {
-        return Milliamperes(0);
-    }
-    let tenths = c as usize;
-    if battery == 3 {
-        rows_90::row(tenths)
-    } else {
-        rows_60::row(tenths)
+    match usize::try_from(coldest.0) {
+        Err(_) => Milliamperes(0),
+        Ok(tenths) if battery == 3 => rows_90::row(tenths),
+        Ok(tenths) => rows_60::row(tenths),
     }
 }
 
@@ -27,7 +22,7 @@ pub fn permitted(battery: u8, coldest: DeciCelsius) -> Milliamperes
 pub fn charge_bound(battery: u8, coldest: DeciCelsius, i: Milliamperes) -> Milliamperes
     ensures { result ≡ charge_bound (permitted battery coldest) i }
 {
-    if i.0 <= 0 {
+    if i <= Milliamperes(0) {
         Milliamperes(0)
     } else {
         permitted(battery, coldest)

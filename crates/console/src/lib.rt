@@ -5,25 +5,33 @@
 mod parts;
 
 use decision::Why;
+use parts::{RunState, Streams};
+use rules::refusals;
 use std::io::{Read, Write};
 
 // The input is a type byte and then events; the output is a line for each event and a last line.
 pub fn run<I: Read, O: Write, E: Write>(input: &mut I, output: &mut O, errors: &mut E) {
+    let mut streams = Streams {
+        input,
+        output,
+        errors,
+    };
     let mut bytes = [0u8; 65_536];
-    let have = match transfer::read_some(input, &mut bytes) {
+    let have = match transfer::read_some(streams.input, &mut bytes) {
         Ok(got) => got,
         Err(why) => {
-            parts::cannot_read(errors, why);
+            streams.cannot_read(why);
             return;
         }
     };
     let opening = report::opening(&bytes[..have]);
     let progress = opening.progress;
-    if (have == 0) | (opening.refusal != 0) {
-        parts::close(output, errors, progress, Why::Refused(opening.refusal));
+    if have == 0 || opening.refusal.is_some() {
+        let number = refusals::number_of(opening.refusal);
+        streams.close(progress, Why::Refused(number));
         return;
     }
-    let start = parts::RunState {
+    let start = RunState {
         progress,
         at: 1,
         have,
@@ -31,5 +39,5 @@ pub fn run<I: Read, O: Write, E: Write>(input: &mut I, output: &mut O, errors: &
         done: false,
     };
     let mut text = [0u8; 65_536];
-    parts::all(input, output, errors, start, &mut bytes, &mut text);
+    streams.all(start, &mut bytes, &mut text);
 }

@@ -1,10 +1,9 @@
 -- The accounts as the code goes through them.
 use mathlib.Core.Path.{◌≡◌, refl}
 use mathlib.Core.Bool.{Bool, true, false, cond}
-use Prim.Native.Nat.{ℕ, ◌+◌, ◌≤◌}
+use Prim.Native.Nat.{ℕ, ◌+◌}
 use native.Mathlib.Nat.{add-zero}
 use denote.Enum.Bare.{sameb}
-use lib.Dec.{leb, leb→le}
 use Rattle.rules.specs.declared.units.Milliamperes.{Milliamperes}
 use Rattle.rules.specs.declared.units.Milliseconds.{Milliseconds}
 use Rattle.rules.specs.declared.units.Charge.{Charge}
@@ -15,20 +14,11 @@ use Rattle.rules.specs.Soundness.{Previous}
 use Rattle.std.specs.Prelude.{None, Some}
 use Rattle.rules.specs.declared.session.Watch.{Watch}
 use Rattle.rules.specs.declared.battery.Tally.{Tally}
-use Rattle.rules.specs.Quantities.{ma_ms, mission_time, elapsed}
-use Rattle.rules.specs.Soundness.{account_limit}
+use Rattle.rules.specs.Quantities.{ma_ms, elapsed}
 use Rattle.rules.specs.Test.{plausible as is_plausible}
 use Rattle.rules.specs.Accounts.{flow, halved, positive_part, negative_part}
-use Rattle.rules.proofs.Bools.{and_iff, is_true}
 use Rattle.step.specs.Charge.{charge}
 use Rattle.step.specs.Track.{observe}
-use Rattle.advance.specs.Room.{accounts_room}
-
-pub within_limits : (n : Tally) → accounts_room n ≡ true → (n.charged.0 ≤ (account_limit mission_time).0) × (n.discharged.0 ≤ (account_limit mission_time).0)
-within_limits n room =
-    let limit = (account_limit mission_time).0 in
-    let both = (and_iff (leb n.charged.0 limit) (leb n.discharged.0 limit)).0 ((is_true (accounts_room n)).1 room) in
-    (leb→le n.charged.0 limit both.0, leb→le n.discharged.0 limit both.1)
 
 module _ (previous : Previous) (plausible : Bool) (t : Milliseconds) (i : Milliamperes) (n : Tally) where
   pub charged : (start : Milliseconds) (earlier : Milliamperes) (d : Milliseconds) (a b : Charge) → previous ≡ Some (start, earlier) → plausible ≡ true

@@ -1,14 +1,12 @@
 -- The contactor's test as the code makes it: one test of the mask of those tripped.
 use mathlib.Core.Path.{◌≡◌, refl}
-use mathlib.Core.Bool.{Bool, true, false, not, ◌&&◌}
+use mathlib.Core.Bool.{Bool, true, not, ◌&&◌}
 use Prim.Native.Nat.{ℕ, ◌<◌}
 use lib.Bits.{bit_and}
 use lib.Dec.{eqb}
-use Rattle.rules.specs.declared.states.Contactor.TheVariants.{Open, Closed}
-use Rattle.rules.specs.declared.battery.Record.{Record}
 use Rattle.rules.specs.Protections.{row_of, mask_below}
 use Rattle.rules.proofs.Bits.{all_excused}
-use Rattle.step.specs.Close.{lifted, closes, contactor_of}
+use Rattle.step.specs.Close.{lifted}
 
 module _ (battery : ℕ) where
   -- the mask of those that hold the contactor open, by the setting of override
@@ -19,14 +17,5 @@ module _ (battery : ℕ) where
   unfolding row_of
   held_on on e = rw e refl
 
-  pub held_off : (on : Bool) → on ≡ false → 255 ≡ held on
-  held_off on e = rw e refl
-
   pub lifted_is : (on : Bool) (tripped m : ℕ) → tripped < 256 → m ≡ held on → eqb (bit_and tripped m) 0 ≡ lifted battery on tripped
   lifted_is on tripped m h e = all_excused 8 tripped m (λ protection. on && (row_of battery protection).liftable) h e
-
-pub closed : (r : Record) (b : Bool) → b ≡ closes r.live → b ≡ true → Closed ≡ contactor_of r.live
-closed r b e h = rw (← e, h) refl
-
-pub opened : (r : Record) (b : Bool) → b ≡ closes r.live → b ≡ false → Open ≡ contactor_of r.live
-opened r b e h = rw (← e, h) refl

@@ -41,6 +41,7 @@ pub fn contactor(l: Live) -> u8
 }
 
 // The number of long-term entries.
+#[tactic(auto, using(rules::proofs::Lists::length_tabulate), unfolding(rules::specs::Shown::long_entries))]
 pub fn long_count(s: Stores) -> usize
     ensures { result ≡ length (long_entries s.long) }
 {
@@ -48,6 +49,7 @@ pub fn long_count(s: Stores) -> usize
 }
 
 // The number of short-term entries.
+#[tactic(auto, using(rules::proofs::Lists::length_tabulate), unfolding(rules::specs::Shown::short_entries))]
 pub fn short_count(s: Stores) -> usize
     ensures { result ≡ length (short_entries s.short) }
 {

@@ -1,5 +1,3 @@
-use Rattle.std.proofs.Common.{rules, ◌≡◌, ◌∙◌, sym}
-use Rattle.step.specs.Charge.{charge as charge_of}
 use Rattle.advance.proofs.Laws.{charged, not_charged, no_neighbour}
 use Rattle.advance.proofs.charge.Goals as goal
 

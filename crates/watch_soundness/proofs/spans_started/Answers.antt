@@ -1,5 +1,5 @@
 -- All eight were gone through, or one is found that started later.
-use Rattle.std.proofs.Common.{rules, ◌≡◌, ℕ, ◌<◌, length, arith, false}
+use Rattle.std.proofs.Common.{rules, ◌≡◌, ℕ, ◌<◌, length, false}
 use Rattle.std.specs.Int.Bits.{bit_or}
 use Rattle.rules.proofs.Lists.{mapped}
 use Rattle.watch_soundness.proofs.Laws.{Started, is_started, all_started, one_not_started}

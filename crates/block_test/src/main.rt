@@ -3,16 +3,12 @@
 // buffer (4 bytes each, little-endian), and its bytes: 0 events sent singly, 1 a block, 2 a change that makes the record unsound.
 #![tactic(auto)]
 
-use rules::answers::ReadEvent;
 use rules::battery::{Live, Record};
+use rules::refusals::number_of;
 use std::io::Write;
-use std::rt::{Env, Files};
 use std::{env, io};
-use testing::{files, print, slice};
-
-const BLOCK: usize = 1;
-
-const SPOIL: usize = 2;
+use testing::print::Hex;
+use testing::{files, slice};
 
 // The bytes before those of a step.
 const HEAD: usize = 9;
@@ -22,129 +18,101 @@ const ANSWERS: usize = 1_100;
 
 const MARK: u8 = 0xEE;
 
-fn print_answers<W: Write>(out: &mut W, answers: &[u8]) -> io::Result<()> {
-    print::text(out, b"answers ")?;
-    if answers.len() == 0 {
-        print::text(out, b"-")?;
-    }
-    print::hex(out, answers)?;
-    print::text(out, b"\n")
+// What a block answered, of one that was refused three zeros but for the refusal.
+fn print_sent<W: Write>(out: &mut W, refusal: u8, count: usize, number: u8) -> io::Result<()> {
+    writeln!(out, "refusal {refusal}")?;
+    writeln!(out, "count {count}")?;
+    writeln!(out, "number {number}")
 }
 
-fn send_into<W: Write>(
-    out: &mut W,
-    r: Record,
-    events: &[u8],
-    room: usize,
-    buffer: &mut [u8],
-) -> io::Result<Record> {
-    if buffer.len() < room {
-        print::text(out, b"the answer buffer is too long\n")?;
-        return Ok(r);
+fn print_answers<W: Write>(out: &mut W, answers: &[u8]) -> io::Result<()> {
+    if answers.is_empty() {
+        writeln!(out, "answers -")
+    } else {
+        writeln!(out, "answers {}", Hex(answers))
     }
-    let sent = block::apply_block(r, events, &mut buffer[..room]);
-    print::line(out, b"refusal ", sent.refusal as u64)?;
-    print::line(out, b"count ", sent.count as u64)?;
-    print::line(out, b"number ", sent.reader as u64)?;
-    print_answers(out, slice::part(buffer, 0, room))?;
-    Ok(sent.after)
 }
 
 fn send<W: Write>(out: &mut W, r: Record, events: &[u8], room: usize) -> io::Result<Record> {
-    let mut answers = [MARK; ANSWERS];
-    send_into(out, r, events, room, &mut answers)
+    let mut buffer = [MARK; ANSWERS];
+    let Some(answers) = buffer.get_mut(..room) else {
+        writeln!(out, "the answer buffer is too long")?;
+        return Ok(r);
+    };
+    let sent = block::apply_block(r, events, answers);
+    match sent {
+        Ok(sent) => print_sent(out, 0, sent.count, number_of(sent.reader))?,
+        Err(refusal) => print_sent(out, u8::from(refusal), 0, 0)?,
+    }
+    print_answers(out, answers)?;
+    Ok(sent.map_or(r, |sent| sent.after))
 }
 
 fn send_singly(start: Record, events: &[u8]) -> Record {
     let mut r = start;
-    let mut at: usize = 0;
-    let mut left = events.len();
-    while 0 < left {
-        let ReadEvent::Found(e, next) = event_log::event_at(events, at) else {
-            return r;
-        };
-        let o = engine::apply(r, e);
-        r = o.after;
+    let mut at = 0;
+    while let Ok(Some((e, next))) = event_log::event_at(events, at) {
+        r = engine::apply(r, e).unwrap_or(r);
         at = next;
-        left -= 1;
     }
     r
 }
 
 // No battery has type 0.
 fn spoil(r: Record) -> Record {
-    let l = r.live;
-    let live = Live { battery: 0, ..l };
-    let stores = r.stores;
-    Record { live, stores }
+    Record {
+        live: Live {
+            battery: 0,
+            ..r.live
+        },
+        ..r
+    }
 }
 
+// Kept: bytes for the three steps, matched here alone; an enum would need this match in a TryFrom and another at its use.
 fn take_step<W: Write>(
     out: &mut W,
     r: Record,
-    kind: usize,
+    kind: u8,
     bytes: &[u8],
     room: usize,
 ) -> io::Result<Record> {
-    if kind == BLOCK {
-        return send(out, r, bytes, room);
+    match kind {
+        1 => send(out, r, bytes, room),
+        2 => Ok(spoil(r)),
+        _ => Ok(send_singly(r, bytes)),
     }
-    if kind == SPOIL {
-        return Ok(spoil(r));
-    }
-    Ok(send_singly(r, bytes))
 }
 
-fn take_steps<W: Write>(out: &mut W, input: &[u8], start: Record) -> io::Result<Record> {
+fn take_steps<W: Write>(out: &mut W, steps: &[u8], start: Record) -> io::Result<Record> {
     let mut r = start;
-    let mut at: usize = 1;
-    let mut left = input.len();
-    while 0 < left {
-        if input.len() <= at {
-            return Ok(r);
-        }
-        let kind = slice::byte(input, at);
-        let size = word_reader::u32_at(input, at.wrapping_add(1)) as usize;
-        let room = word_reader::u32_at(input, at.wrapping_add(5)) as usize;
-        let from = at.wrapping_add(HEAD);
-        let to = from.wrapping_add(size);
-        r = take_step(out, r, kind, slice::part(input, from, to), room)?;
-        at = to;
-        left -= 1;
+    let mut rest = steps;
+    while let Some(kind) = rest.first() {
+        let size = word_reader::u32_at(rest, 1) as usize;
+        let room = word_reader::u32_at(rest, 5) as usize;
+        let end = HEAD + size;
+        r = take_step(out, r, *kind, slice::part(rest, HEAD, end), room)?;
+        rest = slice::part(rest, end, rest.len());
     }
     Ok(r)
 }
 
 fn run<W: Write>(out: &mut W, input: &[u8]) -> io::Result<()> {
-    if 0 < input.len() {
-        let f = engine::fresh(input[0]);
-        let r = take_steps(out, input, f.start)?;
+    if let Some((battery, steps)) = input.split_first() {
+        let r = take_steps(out, steps, engine::fresh(*battery).start)?;
         record_text::print(out, r, engine::contactor(r))?;
     }
     Ok(())
 }
 
-fn run_case<R: Env + Files, O: Write, E: Write>(
-    rt: &R,
-    out: &mut O,
-    errors: &mut E,
-    i: usize,
-) -> io::Result<()> {
-    files::print_name(rt, out, i)?;
-    print::text(out, b"\n")?;
-    let mut input = [0u8; 65_536];
-    let n = files::read(rt, errors, i, &mut input);
-    run(out, &input[..n])
-}
-
 fn main(rt: HostRuntime) -> io::Result<()> {
     let mut out = rt.stdout();
     let mut errors = rt.stderr();
-    let count = env::args(&rt)?.len();
-    let mut i: usize = 1;
-    while i < count {
-        run_case(&rt, &mut out, &mut errors, i)?;
-        i += 1;
+    let mut buffer = [0; 65_536];
+    for i in 1..env::args(&rt)?.len() {
+        files::print_name(&rt, &mut out, i)?;
+        writeln!(out)?;
+        run(&mut out, files::read(&rt, &mut errors, i, &mut buffer))?;
     }
     Ok(())
 }

@@ -15,9 +15,6 @@ weighted : (ok : Bool) (weight : ℕ) → cond ok 0 weight ≡ weight * cond ok 
 weighted true weight = omega arith
 weighted false weight = omega arith
 
-pub four_bits : (a b c d : Bool) → cond a 0 1 + cond b 0 2 + cond c 0 4 + cond d 0 8 ≡ mask_of (a ∷ b ∷ c ∷ d ∷ [])
-four_bits a b c d = omega (arith, weighted b 2, weighted c 4, weighted d 8)
-
 pub all_bits : (a b c d e f g h i j k l m : Bool)
     → mask_of (a ∷ b ∷ c ∷ d ∷ []) + mask_of (e ∷ f ∷ g ∷ h ∷ []) * 16 + cond i 0 256 + mask_of (j ∷ k ∷ l ∷ m ∷ []) * 512
     ≡ mask_of (a ∷ b ∷ c ∷ d ∷ e ∷ f ∷ g ∷ h ∷ i ∷ j ∷ k ∷ l ∷ m ∷ [])

@@ -7,20 +7,16 @@ ghost use Rattle.report_test.specs.Full.{is_full};
 
 use decision::Why;
 use lines::{Part, Progress};
+use rules::refusals::number_of;
 use std::io;
 use std::io::Write;
-use testing::{files, print, slice};
+use testing::{files, slice};
 
-fn heading<W: Write>(out: &mut W, n: usize, after: &[u8]) -> io::Result<()> {
-    print::text(out, b"== ")?;
-    print::decimal(out, n as u64)?;
-    print::text(out, after)
-}
-
+// Kept: beside the one of `console`, which can't fail and says a failed write on standard error; here `?` hands it on.
 fn close<W: Write>(out: &mut W, after: Progress, why: Why) -> io::Result<()> {
-    let mut text = [0u8; 4096];
+    let mut text = [0; 4096];
     let n = report::closing(after, why, &mut text);
-    print::text(out, slice::part(&text, 0, n))
+    out.write_all(&text[..n])
 }
 
 // Prints the lines of a part, as many as a buffer has room for.
@@ -28,63 +24,46 @@ fn lines<W: Write>(out: &mut W, part: &[u8], before: Progress, text: &mut [u8]) 
     ensures { IfOk result (λ p. p.read ≤ length part.now) }
 {
     let p = lines::put_lines(part, before, text);
-    print::text(out, slice::part(text, 0, p.written))?;
+    out.write_all(&text[..p.written])?;
     Ok(p)
 }
 
-// The same with room for one line of the longest kind.
-fn line<W: Write>(out: &mut W, part: &[u8], before: Progress) -> io::Result<Part>
-    ensures { IfOk result (λ p. p.read ≤ length part.now) }
-{
-    let mut text = [0u8; 72];
-    lines(out, part, before, &mut text)
-}
-
 // The text of a log that is handed over whole.
+// Kept: beside `divided`, since a list of parts can't say that the second one begins with what the first left unread.
 fn whole<W: Write>(out: &mut W, log: &[u8]) -> io::Result<()> {
-    let mut text = [0u8; 4096];
     let opening = report::opening(log);
-    let start = opening.progress;
-    if log.len() == 0 {
-        close(out, start, Why::Refused(opening.refusal))?;
-        return Ok(());
-    }
-    let part = lines(out, &log[1..], start, &mut text)?;
-    let end = part.progress;
-    let why = part.why;
-    close(out, end, why)
+    let Some((_, events)) = log.split_first() else {
+        let why = Why::Refused(number_of(opening.refusal));
+        return close(out, opening.progress, why);
+    };
+    let mut text = [0; 4096];
+    let part = lines(out, events, opening.progress, &mut text)?;
+    close(out, part.progress, part.why)
 }
 
 // The text of a log that is handed over in two parts, what the first left unread with the second.
 fn divided<W: Write>(out: &mut W, log: &[u8], n: usize) -> io::Result<()> {
-    let mut text = [0u8; 4096];
+    let mut text = [0; 4096];
     let opening = report::opening(slice::part(log, 0, n));
-    let start = opening.progress;
-    let first = lines(out, slice::part(log, 1, n), start, &mut text)?;
-    let middle = first.progress;
-    let at = 1usize.wrapping_add(first.read);
-    let second = lines(out, slice::part(log, at, log.len()), middle, &mut text)?;
-    let end = second.progress;
-    let why = second.why;
-    close(out, end, why)
+    let first = lines(out, slice::part(log, 1, n), opening.progress, &mut text)?;
+    let unread = slice::part(log, 1usize.wrapping_add(first.read), log.len());
+    let second = lines(out, unread, first.progress, &mut text)?;
+    close(out, second.progress, second.why)
 }
 
+// Kept: a loop beside that of `divisions`: with a closure for what it prints, heading and range would be parameters too.
 fn prefixes<W: Write>(out: &mut W, log: &[u8]) -> io::Result<()> {
-    let mut n: usize = 0;
-    while n <= log.len() {
-        heading(out, n, b"\n")?;
+    for n in 0..=log.len() {
+        writeln!(out, "== {n}")?;
         whole(out, slice::part(log, 0, n))?;
-        n += 1;
     }
     Ok(())
 }
 
 fn divisions<W: Write>(out: &mut W, log: &[u8]) -> io::Result<()> {
-    let mut n: usize = 1;
-    while n <= log.len() {
-        heading(out, n, b" and on\n")?;
+    for n in 1..=log.len() {
+        writeln!(out, "== {n} and on")?;
         divided(out, log, n)?;
-        n += 1;
     }
     Ok(())
 }
@@ -92,46 +71,36 @@ fn divisions<W: Write>(out: &mut W, log: &[u8]) -> io::Result<()> {
 fn is_full(why: Why) -> bool
     ensures { result ≡ is_full why }
 {
-    match why {
-        Why::Full => true,
-        Why::End => false,
-        Why::Cut => false,
-        Why::Refused(_) => false,
-        Why::Spent => false,
-    }
+    matches!(why, Why::Full)
 }
 
-// Each call is cut off by its buffer or by the end.
+// With room for one line of the longest kind: each call is cut off by its buffer or by the end.
 fn line_by_line<W: Write>(out: &mut W, log: &[u8]) -> io::Result<()> {
-    print::text(out, b"== line by line\n")?;
-    let opening = report::opening(log);
-    let mut progress = opening.progress;
-    let mut at: usize = 1;
-    while at <= log.len() {
-        let part = line(out, slice::part(log, at, log.len()), progress)?;
+    writeln!(out, "== line by line")?;
+    let mut progress = report::opening(log).progress;
+    let Some((_, events)) = log.split_first() else {
+        return Ok(());
+    };
+    let mut rest = events;
+    loop {
+        let mut text = [0; 72];
+        let part = lines(out, rest, progress, &mut text)?;
+        if !is_full(part.why) {
+            return close(out, part.progress, part.why);
+        }
+        if part.read == 0 {
+            return Ok(());
+        }
         progress = part.progress;
-        let why = part.why;
-        if !is_full(why) {
-            close(out, progress, why)?;
-            return Ok(());
-        }
-        let read = part.read;
-        if read == 0 {
-            return Ok(());
-        }
-        if log.len() - at < read {
-            return Ok(());
-        }
-        at += read;
+        rest = &rest[part.read..];
     }
-    Ok(())
 }
 
 fn main(rt: HostRuntime) -> io::Result<()> {
-    let mut log = [0u8; 4096];
+    let mut buffer = [0; 4096];
     let mut out = rt.stdout();
-    let n = files::read_full(&mut rt.stdin(), &mut log);
-    prefixes(&mut out, &log[..n])?;
-    divisions(&mut out, &log[..n])?;
-    line_by_line(&mut out, &log[..n])
+    let log = files::read_full(&mut rt.stdin(), &mut buffer);
+    prefixes(&mut out, log)?;
+    divisions(&mut out, log)?;
+    line_by_line(&mut out, log)
 }

@@ -1,4 +1,3 @@
 pub mod Digits
 pub mod Lining
-pub mod Tests
 pub mod Numbered

@@ -7,7 +7,9 @@ use native.Mathlib.Omega.{arith}
 use borrow.Author.Tests.{leb-true, le-leb, le-ltb}
 use lib.Dec.{ltb}
 use lib.IntN.{ℤ, pos, negsuc, nat_abs, ◌+ℤ◌}
-use lib.Signed.{mag, le_z}
+use Rattle.std.proofs.Common.{is_lt, is_le, int_cmp}
+use Rattle.std.proofs.lemmas.Int.{ints}
+use lib.Signed.{mag, lt_z, le_z}
 use mir.Syntax.{w32}
 use mir.Val.{SFits}
 use Rattle.rules.specs.declared.units.DeciCelsius.{DeciCelsius}
@@ -21,6 +23,14 @@ use Rattle.permitted.specs.Bound.{charge_bound}
 use Rattle.permitted.proofs.Laws.{permitted_small}
 use Rattle.protection.specs.declared.Side.{Side}
 use Rattle.protection.specs.Rows.{sides_of}
+
+-- ---- the order of figures below 0 too
+
+pub int_below : (a b : ℤ) → is_lt (int_cmp a b) ≡ lt_z a b
+int_below a b = grind (arith, ints)
+
+pub int_at_most : (a b : ℤ) → is_le (int_cmp a b) ≡ le_z a b
+int_at_most a b = grind (arith, ints)
 
 -- ---- what a current is held against as a charge
 

@@ -4,4 +4,4 @@ use Rattle.protection.proofs.sides.Goals as goal
 
 pub returns : goal.returns
 unfolding sides_of masks_of
-returns c = rw (c.mask-within.ensures, c.mask-beyond.ensures, c.rows-s.ensures)
+returns c = rw (c.mask-within.ensures, c.mask-beyond.ensures, c.rows.ensures)

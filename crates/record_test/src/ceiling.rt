@@ -7,6 +7,7 @@ use rules::units::Milliseconds;
 use std::io;
 use std::io::Write;
 
+// Kept: calls one by one, since which record each takes, of those that others left, is the test.
 pub fn run<W: Write>(out: &mut W) -> io::Result<()> {
     let t = Milliseconds(1_000);
     let r = edit::commands(COMMAND_CEILING - 1);

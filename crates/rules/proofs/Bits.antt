@@ -9,7 +9,7 @@ use native.Mathlib.Omega.{arith}
 use lib.Bits.{bit_and, bit_or, and_step, or_step, and_shr, or_shr, and_le_l, and_le_r, or_add_and}
 use borrow.Author.Tests.{eqb-true, eq-eqb}
 use lib.Dec.{T, eqb}
-use lib.Pow.{pow_pos, ones_lt}
+use lib.Pow.{pow_pos}
 use Rattle.rules.specs.Lists.{tabulate, all}
 use Rattle.rules.specs.Protections.{mask_below}
 use Rattle.rules.specs.Shown.{bit_of}
@@ -154,12 +154,9 @@ bit_of_none n = rw (zero-div (2 ^ n))
 pub bit_of_all : (k n : ℕ) → n < k → bit_of (2 ^ k - 1) n ≡ true
 bit_of_all k n h = (rw sub-zero at (bit_not k 0 n (pow_pos k) h)) ∙ (rw (bit_of_none n))
 
--- a mask without a bit is 0, and one with every bit is the greatest
+-- a mask without a bit is 0
 pub none_is : (k a : ℕ) → a < 2 ^ k → ((n : ℕ) → n < k → bit_of a n ≡ false) → a ≡ 0
 none_is k a h e = same_mask k a 0 h (pow_pos k) (λ n l. e n l ∙ sym (bit_of_none n))
-
-pub all_is : (k a : ℕ) → a < 2 ^ k → ((n : ℕ) → n < k → bit_of a n ≡ true) → a ≡ 2 ^ k - 1
-all_is k a h e = same_mask k a (2 ^ k - 1) h (ones_lt k) (λ n l. e n l ∙ sym (bit_of_all k n l))
 
 -- what a test of two masks at once tells of each
 pub none_of_or : (a b : ℕ) → bit_or a b ≡ 0 → (a ≡ 0) × (b ≡ 0)

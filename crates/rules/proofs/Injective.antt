@@ -2,10 +2,10 @@
 use mathlib.Core.Path.{◌≡◌, refl, sym, ap, ◌∙◌}
 use mathlib.Core.Bool.{Bool, true, false}
 use mathlib.Core.List.{List, [], ◌∷◌}
-use Prim.Native.Nat.{ℕ, zero, suc, ◌-◌}
+use Prim.Native.Nat.{ℕ, ◌-◌}
 use lib.IntN.{ℤ}
 use lib.ListN.{get_or}
-use Rattle.std.specs.Prelude.{Option, None, Some, Result, Ok, Err}
+use Rattle.std.specs.Prelude.{Option, None, Some, Result, Ok, Err, unwrap_or}
 use Rattle.rules.specs.declared.states.State.{State}
 use Rattle.rules.specs.declared.states.State.TheVariants.{Unpowered, Dormant, Operational, Maintenance}
 use Rattle.rules.specs.declared.states.TestResult.{TestResult}
@@ -91,49 +91,26 @@ contactor_of_lem IsClosed = refl
 pub contactor_injective : (a b : Contactor) → contactor_number a ≡ contactor_number b → a ≡ b
 contactor_injective = injective contactor_number contactor_of contactor_of_lem
 
--- ---- refusals: the case of a number, the first for 0
+-- ---- refusals: the case of a number, none for 0
 
-abbrev refusal_of : ℕ → Refusal
-refusal_of n =
-    get_or
-    (UnknownType
-    ∷ UnknownType
-    ∷ UnknownKind
-    ∷ CutShort
-    ∷ NotListed
-    ∷ Unsound
-    ∷ TimeBelowLast
-    ∷ TimeAboveMission
-    ∷ WrongPower
-    ∷ RequestNotAllowed
-    ∷ OtherNotAllowed
-    ∷ NoRoom
-    ∷ TooManyEvents
-    ∷ TooFewAnswers
-    ∷ []) n UnknownType
-
-refusal_of_lem : (r : Refusal) → refusal_of (refusal_number r) ≡ r
-refusal_of_lem UnknownType = refl
-refusal_of_lem UnknownKind = refl
-refusal_of_lem CutShort = refl
-refusal_of_lem NotListed = refl
-refusal_of_lem Unsound = refl
-refusal_of_lem TimeBelowLast = refl
-refusal_of_lem TimeAboveMission = refl
-refusal_of_lem WrongPower = refl
-refusal_of_lem RequestNotAllowed = refl
-refusal_of_lem OtherNotAllowed = refl
-refusal_of_lem NoRoom = refl
-refusal_of_lem TooManyEvents = refl
-refusal_of_lem TooFewAnswers = refl
-
-pub refusal_injective : (a b : Refusal) → refusal_number a ≡ refusal_number b → a ≡ b
-refusal_injective = injective refusal_number refusal_of refusal_of_lem
-
--- 0 is the number of no refusal
 abbrev refused_as : ℕ → Option Refusal
-refused_as zero = None
-refused_as (suc n) = Some (refusal_of (suc n))
+refused_as n =
+    get_or
+    (None
+    ∷ Some UnknownType
+    ∷ Some UnknownKind
+    ∷ Some CutShort
+    ∷ Some NotListed
+    ∷ Some Unsound
+    ∷ Some TimeBelowLast
+    ∷ Some TimeAboveMission
+    ∷ Some WrongPower
+    ∷ Some RequestNotAllowed
+    ∷ Some OtherNotAllowed
+    ∷ Some NoRoom
+    ∷ Some TooManyEvents
+    ∷ Some TooFewAnswers
+    ∷ []) n None
 
 refused_as_lem : (o : Option Refusal) → refused_as (number_of o) ≡ o
 refused_as_lem None = refl
@@ -153,6 +130,16 @@ refused_as_lem (Some TooFewAnswers) = refl
 
 pub number_injective : (a b : Option Refusal) → number_of a ≡ number_of b → a ≡ b
 number_injective = injective number_of refused_as refused_as_lem
+
+-- of a number that is none, the first
+abbrev refusal_of : ℕ → Refusal
+refusal_of n = unwrap_or (refused_as n) UnknownType
+
+refusal_of_lem : (r : Refusal) → refusal_of (refusal_number r) ≡ r
+refusal_of_lem r = ap (λ (o : Option Refusal). unwrap_or o UnknownType) (refused_as_lem (Some r))
+
+pub refusal_injective : (a b : Refusal) → refusal_number a ≡ refusal_number b → a ≡ b
+refusal_injective = injective refusal_number refusal_of refusal_of_lem
 
 -- ---- events and entries: from the kind and the values
 
@@ -224,28 +211,16 @@ fresh_injective =
     (λ f. ap (λ (o : Option Refusal). record { refusal = o; start = f.start }) (refused_as_lem f.refusal))
 
 -- of a call on one record
+abbrev called_by : Record → Option Refusal → Result Record Refusal
+called_by after None = Ok after
+called_by after (Some refusal) = Err refusal
+
 abbrev called_of : Outcome → Result Record Refusal
-called_of o = go (refused_as o.refusal)
-  where
-    go : Option Refusal → Result Record Refusal
-    go None = Ok o.after
-    go (Some refusal) = Err refusal
+called_of o = called_by o.after (refused_as o.refusal)
 
 called_of_lem : (before : Record) (a : Result Record Refusal) → called_of (outcome_of before a) ≡ a
 called_of_lem before (Ok after) = refl
-called_of_lem before (Err UnknownType) = refl
-called_of_lem before (Err UnknownKind) = refl
-called_of_lem before (Err CutShort) = refl
-called_of_lem before (Err NotListed) = refl
-called_of_lem before (Err Unsound) = refl
-called_of_lem before (Err TimeBelowLast) = refl
-called_of_lem before (Err TimeAboveMission) = refl
-called_of_lem before (Err WrongPower) = refl
-called_of_lem before (Err RequestNotAllowed) = refl
-called_of_lem before (Err OtherNotAllowed) = refl
-called_of_lem before (Err NoRoom) = refl
-called_of_lem before (Err TooManyEvents) = refl
-called_of_lem before (Err TooFewAnswers) = refl
+called_of_lem before (Err refusal) = ap (called_by before) (refused_as_lem (Some refusal))
 
 pub outcome_injective : (before : Record) (a b : Result Record Refusal) → outcome_of before a ≡ outcome_of before b → a ≡ b
 outcome_injective before = injective (outcome_of before) called_of (called_of_lem before)

@@ -13,7 +13,8 @@ pub struct Unreadable<R> {
 // What stands at a position of a log, and the position after it; `None` where no byte is left.
 pub type ReadResult<T> = Result<Option<(T, usize)>, Unreadable<Refusal>>;
 
-// A fresh record: document 01 has one beside the refusal of a type too.
+// A fresh record.
+// Kept: a refusal with a record beside it, since document 01 owes the record of type 1 beside refusal 1 (rules:Claims.FreshOf.of_its_type).
 #[derive(Clone, Copy)]
 pub struct Fresh {
     pub refusal: Option<Refusal>,

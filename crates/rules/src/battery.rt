@@ -7,7 +7,7 @@ use crate::stores::Stores;
 use crate::units::{Charge, Milliseconds};
 
 // Set by commands; written anew by power on and power loss.
-#[derive(Clone, Copy, PartialEq, Eq)]
+#[derive(Clone, Copy)]
 pub struct Control {
     pub state: State,
     pub command: Command,
@@ -15,15 +15,16 @@ pub struct Control {
 }
 
 // Survives a power loss.
-#[derive(Clone, Copy, PartialEq, Eq)]
+#[derive(Clone, Copy)]
 pub struct Tally {
     pub commands: u32,
     pub charged: Charge,
     pub discharged: Charge,
 }
 
+// Kept: the battery type is a number, since an unsound record holds any (rules:Soundness.Sound.battery) and `engine::fresh` answers for each.
 // The last time leads, and the battery type and the control fill the eight bytes up, so that no field stands behind a gap.
-#[derive(Clone, Copy, PartialEq, Eq)]
+#[derive(Clone, Copy)]
 pub struct Live {
     pub last: Milliseconds,
     pub battery: u8,
@@ -32,7 +33,7 @@ pub struct Live {
     pub tally: Tally,
 }
 
-#[derive(Clone, Copy, PartialEq, Eq)]
+#[derive(Clone, Copy)]
 pub struct Record {
     pub live: Live,
     pub stores: Stores,

@@ -1,4 +1,5 @@
 // What one measurement reads: 13 sensors.
+// Kept: a field for each: "a reading struct of plain fields" is a form that document 01 expects.
 use crate::units::{DeciCelsius, Milliamperes, Millivolts};
 
 #[derive(Clone, Copy)]

@@ -9,7 +9,8 @@ pub type Previous = Option<(Milliseconds, Milliamperes)>;
 // tripped, those whose longest span that ends at the last measurement is a beyond span, and those for which it is a within span; and for
 // each the time of the first measurement of that span. Four bytes lead, so that no field stands behind a gap: gaps are copied piece by
 // piece. specs/Shown has what these fields show of one protection.
-#[derive(Clone, Copy, PartialEq, Eq)]
+// Kept: masks and an array, no array of a struct for each: that took 60 to 130 instructions an event more (docs/DECISIONS.md, "What is watched").
+#[derive(Clone, Copy)]
 pub struct Watch {
     pub test: TestResult,
     pub tripped: u8,

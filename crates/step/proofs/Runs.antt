@@ -1,7 +1,7 @@
 -- From a record that shows a ledger, every list of calls: the answers, and the record that is left.
-use mathlib.Core.Path.{◌≡◌, refl, sym, ap, ap₂, subst, ◌∙◌}
+use mathlib.Core.Path.{◌≡◌, refl, sym, ap₂, subst, ◌∙◌}
 use mathlib.Core.Bool.{Bool, true, false, cond}
-use mathlib.Core.List.{List, [], ◌∷◌, ◌++◌}
+use mathlib.Core.List.{List, [], ◌∷◌}
 use Prim.Native.Nat.{ℕ, zero, suc, ◌≤◌, ◌<◌}
 use native.Mathlib.Omega.{arith}
 use lib.Dec.{T}
@@ -129,12 +129,3 @@ battery_call r e = go (refusal r e)
 pub battery_run : (r : Record) (es : List Event) → (run r es).live.battery ≡ r.live.battery
 battery_run r [] = refl
 battery_run r (e ∷ es) = battery_run (call r e).after es ∙ battery_call r e
-
--- a list after a list
-pub run_append : (r : Record) (a b : List Event) → run r (a ++ b) ≡ run (run r a) b
-run_append r [] b = refl
-run_append r (e ∷ a) b = run_append (call r e).after a b
-
-pub answers_append : (r : Record) (a b : List Event) → answers r (a ++ b) ≡ answers r a ++ answers (run r a) b
-answers_append r [] b = refl
-answers_append r (e ∷ a) b = ap (λ (ns : List ℕ). (call r e).refusal ∷ ns) (answers_append (call r e).after a b)

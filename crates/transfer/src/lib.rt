@@ -46,17 +46,18 @@ fn write_some<W: Write>(output: &mut W, bytes: &[u8]) -> io::Result<usize>
 pub fn write_all<W: Write>(output: &mut W, bytes: &[u8]) -> Result<(), Unwritten>
     ensures { IfErr result (λ why. why.count < length bytes.now) }
 {
-    let mut done = 0;
-    while done < bytes.len() {
-        match write_some(output, &bytes[done..]) {
+    let mut rest = bytes;
+    while !rest.is_empty() {
+        let count = bytes.len() - rest.len();
+        match write_some(output, rest) {
             Ok(0) => {
                 return Err(Unwritten {
-                    count: done,
+                    count,
                     error: io::Error::from(ErrorKind::WriteZero),
                 });
             }
-            Ok(n) => done += n,
-            Err(error) => return Err(Unwritten { count: done, error }),
+            Ok(n) => rest = &rest[n..],
+            Err(error) => return Err(Unwritten { count, error }),
         }
     }
     Ok(())

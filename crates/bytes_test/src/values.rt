@@ -6,7 +6,7 @@ use rules::stores::Entry;
 use std::io;
 use std::io::Write;
 
-// Kept: a trait of its own that prints, since Display would have to stand in `rules`, which has nothing to run (docs/CONTRIBUTING.md).
+// Kept: a trait of its own that prints, since Display on the types of `rules` would be there for the words of this test alone.
 pub trait Value: Copy {
     fn print<W: Write>(self, out: &mut W) -> io::Result<()>;
 

@@ -12,7 +12,7 @@ use std::{env, io};
 use testing::files;
 
 // The record after the last readable event.
-// Kept: beside block_test's send_singly, which doesn't count first; in `testing` both would check with the engine at each edit of that.
+// Kept: beside block_test's send_singly, which the bytes bound: this one goes by what `readable` counts, which it tests.
 fn after(events: &[u8], start: Record) -> Record {
     let mut r = start;
     let mut at = 0;

@@ -32,6 +32,8 @@ fn positive(sum: i64) -> u64
 }
 
 // Of currents that charge on the whole. The bound is for the account that it joins.
+// Kept: the bound stands in both clauses: it is for the sum that the account makes of it, and any account is a `Charge`.
+// Kept: two currents and a time, not a struct: the sum takes two of the three.
 pub fn inflow(earlier: Milliamperes, later: Milliamperes, elapsed: Milliseconds) -> Charge
     ensures is { result ≡ ma_ms (positive_part (halved (flow earlier later elapsed))) }
     ensures small { result.0 ≤ 9_223_372_036_854_775_808 }

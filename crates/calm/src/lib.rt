@@ -24,6 +24,7 @@ fn surely_permitted(coldest: DeciCelsius, i: Milliamperes) -> bool
 }
 
 // Whether a measurement surely is within the limits of every protection: most are.
+// Kept: battery type and reading are two parameters: one is of the record, the other of the event; so too in `protection` and `watch`.
 #[tactic(auto, unfolding(crate::specs::Calm::is_calm))]
 pub fn is_calm(battery: u8, r: Reading) -> bool
     ensures { result ≡ is_calm battery r }

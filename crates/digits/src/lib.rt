@@ -39,6 +39,8 @@ fn spell(n: u64, digits: &mut [u8])
 
 // Writes a number in decimal digits from a position on; answers the position after it. Nothing is written where the buffer has no room for
 // the longest number.
+// Kept: the position that was given where there is no room, no Option: it can't fail, and `decimal_at` of its clauses says so.
+// Kept: digits by hand: `format!` wants a heap, which the project does without, and `write!` tests the room at each piece (docs/PERFORMANCE.md has what one test costs).
 pub fn put_decimal(n: u64, out: &mut [u8], at: usize) -> usize
     ensures value { (result ≡ at + length (decimal_at n at (length out.old))) × (result ≤ at + 20) }
     ensures out_after { out.new ≡ overwritten out.old at (decimal_at n at (length out.old)) }

@@ -49,6 +49,7 @@ static TIMES: [Times; 8] = [
 ];
 
 // Row 0 answers for a number that has no row. No time depends on the battery type.
+// Kept: the protection is a number, since the clauses of `hold` and `release` answer for each.
 fn times_of(protection: u8) -> Times
     ensures { (battery : ℕ) → result ≡ times_of (row_of battery protection) }
 {

@@ -43,6 +43,7 @@ fn refusal_tested(rest: bool, live: Live, event: Event) -> Option<Refusal>
 
 // A call where the rest of soundness was tested before, with this result. A refused one leaves the live part and the stores. The answer is put
 // together in one place: docs/DECISIONS.md, "One way out, one caller".
+// Kept: `rest` is any bool: a type that only `rest_sound` makes would ask more of callers, and the clause answers for both.
 pub fn judge_tested(rest: bool, live: Live, event: Event) -> Judged
     ensures { judgement_of result ≡ judged_tested rest live event }
 {

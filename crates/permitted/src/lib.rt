@@ -8,6 +8,7 @@ ghost use Rattle.permitted.specs.Bound.{charge_bound};
 
 use rules::units::{DeciCelsius, Milliamperes};
 
+// Kept: the battery type is a number, since the clause answers for each.
 pub fn permitted(battery: u8, coldest: DeciCelsius) -> Milliamperes
     ensures { result ≡ permitted battery coldest }
 {

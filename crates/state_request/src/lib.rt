@@ -33,6 +33,7 @@ fn enters_dormant(s: State, q: Request) -> bool
     q == Request::Dormant && s != State::Dormant
 }
 
+// Kept: a time and a live part, no struct of both: it would be taken apart at once; so too in `settings` and `advance`.
 pub fn request(t: Milliseconds, q: Request, l: Live) -> Live
     ensures { result ≡ set_live t (request_control q l.control) l.tally l }
 {

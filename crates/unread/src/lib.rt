@@ -6,6 +6,7 @@ ghost use Rattle.unread.specs.Tail.{tail_length, tail_moved};
 
 // Moves what stands from `from` up to `to` to the front, and answers how long it is; what stands behind it is as it was. Nothing is moved
 // where the buffer ends before `to`, or `to` stands before `from`.
+// Kept: 0 where nothing is moved, no Option: it can't fail, and `tail_length` of its clauses says so.
 pub fn to_front(buffer: &mut [u8], from: usize, to: usize) -> usize
     ensures value { result ≡ tail_length from to (length buffer.old) }
     ensures buffer_after { buffer.new ≡ tail_moved from to buffer.old }

@@ -41,6 +41,7 @@ pub fn contactor(l: Live) -> u8
 }
 
 // The number of long-term entries.
+// Kept: one for each store: a trait for a field of the same name is no plainer.
 #[tactic(auto, using(rules::proofs::Lists::length_tabulate), unfolding(rules::specs::Shown::long_entries))]
 pub fn long_count(s: Stores) -> usize
     ensures { result ≡ length (long_entries s.long) }

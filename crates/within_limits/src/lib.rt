@@ -15,6 +15,7 @@ pub const HOT_CLEAR: DeciCelsius = DeciCelsius(600);
 
 pub const COLD_CLEAR: DeciCelsius = DeciCelsius(50);
 
+// Kept: the battery type is a number, since the clause answers for each; document 01 has unsound records of any.
 pub fn discharge_limit(battery: u8) -> Milliamperes
     ensures { result ≡ negated (discharge_rating battery) }
 {

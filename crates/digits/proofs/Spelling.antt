@@ -5,7 +5,7 @@ use mathlib.Core.List.{List, [], ◌∷◌, ◌++◌, append-nil, append_assoc}
 use Prim.Native.Nat.{ℕ, zero, suc, ◌+◌, ◌-◌, ◌/◌, ◌%◌, ◌<◌, ◌≤◌}
 use native.Mathlib.Nat.{not-suc-le-zero}
 use native.Mathlib.Omega.{arith}
-use borrow.Author.Tests.{ltb-true, ltb-false, lt-ltb, le-ltb}
+use borrow.Author.Tests.{ltb-true, ltb-false, lt-ltb}
 use lib.Dec.{ltb}
 use lib.ListN.{length, take, set, get_or, length-append}
 use lib.Seq.{take-suc, set_at, length-take-le, take-length}
@@ -14,9 +14,6 @@ use Rattle.rules.proofs.Decimals.{decimal_small, decimal_large}
 
 pub digit_small : (d : ℕ) → d < 10 → digit d ≡ 48 + d
 digit_small d h = rw (lt-ltb d 10 h) refl
-
-pub digit_large : (d : ℕ) → 10 ≤ d → digit d ≡ 87 + d
-digit_large d h = rw (le-ltb d 10 h) refl
 
 -- ---- how many
 

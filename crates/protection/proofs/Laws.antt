@@ -2,7 +2,8 @@
 use mathlib.Core.Path.{◌≡◌, refl, sym, ap, ◌∙◌}
 use mathlib.Core.Bool.{Bool, true, false, cond, ◌&&◌}
 use mathlib.Core.List.{List, [], ◌∷◌}
-use Prim.Native.Nat.{ℕ, suc, ◌+◌, ◌≤◌, ◌-◌}
+use Prim.Native.Nat.{ℕ, suc, ◌+◌, ◌*◌, ◌^◌, ◌%◌, ◌<◌, ◌≤◌, ◌-◌}
+use native.Mathlib.Nat.{pow-le-pow_right}
 use native.Mathlib.Omega.{arith}
 use borrow.Author.Tests.{leb-true, le-leb, le-ltb}
 use lib.Dec.{ltb}
@@ -10,15 +11,17 @@ use lib.IntN.{ℤ, pos, negsuc, nat_abs, ◌+ℤ◌}
 use Rattle.std.proofs.Common.{is_lt, is_le, int_cmp}
 use Rattle.std.proofs.lemmas.Int.{ints}
 use lib.Signed.{mag, lt_z, le_z}
-use mir.Syntax.{w32}
-use mir.Val.{SFits}
+use mir.Syntax.{w8, w32}
+use mir.Val.{Fits, SFits}
+use mir.Facts.{Fits-le, Fits-lit}
 use Rattle.rules.specs.declared.units.DeciCelsius.{DeciCelsius}
 use Rattle.rules.specs.declared.units.Milliamperes.{Milliamperes}
 use Rattle.rules.specs.declared.units.Millivolts.{Millivolts}
 use Rattle.rules.specs.declared.sensors.Reading.{Reading}
 use Rattle.rules.specs.declared.sensors.Extremes.{Extremes}
 use Rattle.rules.specs.Quantities.{mv, ma, dc, ◌<mV◌, ◌≤mV◌, ◌<mA◌, ◌≤mA◌, ◌<dC◌, ◌≤dC◌, sum, negated, charge_rating, discharge_rating}
-use Rattle.rules.specs.Protections.{row_of, permitted_at, permitted, extremes}
+use Rattle.rules.specs.Protections.{row_of, permitted_at, permitted, extremes, mask_below}
+use Rattle.rules.proofs.Bits.{mask_below_lem}
 use Rattle.permitted.specs.Bound.{charge_bound}
 use Rattle.permitted.proofs.Laws.{permitted_small}
 use Rattle.protection.specs.declared.Side.{Side}
@@ -103,3 +106,11 @@ module _ (battery : ℕ) (r : Reading) (e : Extremes) (e-is : e ≡ extremes r) 
       ∙ ap (λ (x : Milliamperes). sides_by r e side x (mv (e.highest.0 - e.lowest.0))) d-is
       ∙ ap (λ (x : Extremes). sides_by r x (charge_side (permitted battery x.coldest) r.current) (negated (discharge_rating battery))
       (mv (x.highest.0 - x.lowest.0))) e-is
+
+-- ---- the mask of those below one of the eight has room for its bit
+
+pub room : (test : ℕ → Bool) (mask n : ℕ) → n < 8 → mask ≡ mask_below test n → Fits w8 (mask + 1 * 2 ^ n % 256)
+room test mask n h e =
+    let at_most : n ≤ 7 = omega arith in
+    let weight : 2 ^ n ≤ 2 ^ 7 = pow-le-pow_right {n = 2} (omega arith) at_most in
+    Fits-le {n = 255} (omega (arith, weight, e, mask_below_lem test n)) (Fits-lit tt)

@@ -9,7 +9,7 @@ ghost use Rattle.due.specs.Due.{due_at, due_all};
 use rules::units::Milliseconds;
 
 // Whether a mask has a protection.
-fn has(mask: u8, protection: u8) -> bool
+fn has(mask: u8, protection: usize) -> bool
     requires { protection < 8 }
     ensures { result ≡ bit_of mask protection }
 {
@@ -38,11 +38,10 @@ pub fn due(beyond: u8, asked: u8, t: Milliseconds, since: [Milliseconds; 8]) -> 
         return 0;
     }
     let mut due = 0;
-    for protection in 0..8u8 {
-        let start = since[protection as usize];
+    for (protection, start) in since.iter().enumerate() {
         let is_beyond = has(beyond, protection);
         let is_asked = has(asked, protection);
-        if due_at(is_beyond, is_asked, protection, t, start) {
+        if due_at(is_beyond, is_asked, protection as u8, t, *start) {
             due += 1 << protection;
         }
     }

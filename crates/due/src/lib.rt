@@ -9,6 +9,7 @@ ghost use Rattle.due.specs.Due.{due_at, due_all};
 use rules::units::Milliseconds;
 
 // Whether a mask has a protection.
+// Kept: the same test of a bit in `due`, `tracking` and `watch_soundness`: shared, it would be public with a `requires`, which none may have.
 fn has(mask: u8, protection: usize) -> bool
     requires { protection < 8 }
     ensures { result ≡ bit_of mask protection }

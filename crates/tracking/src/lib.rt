@@ -19,6 +19,7 @@ pub struct Kept {
 
 // ---- the starts of the spans
 
+// Kept: the same test of a bit in `due`, `tracking` and `watch_soundness`: shared, it would be public with a `requires`, which none may have.
 fn since_at(begun: u8, protection: usize, t: Milliseconds, since: Milliseconds) -> Milliseconds
     requires { protection < 8 }
     ensures { result ≡ cond (bit_of begun protection) t since }

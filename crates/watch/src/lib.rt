@@ -51,6 +51,7 @@ fn mask_of(plausible: bool, r: Reading) -> u16
 }
 
 // Nor are its failed sensors counted.
+// Kept: the test for 0: `count_ones` alone is 17 instructions without popcnt (rustc's assembly, opt-level 3), on a plausible measurement too.
 fn count_of(mask: u16) -> u32
     ensures { result ≡ ones mask }
 {

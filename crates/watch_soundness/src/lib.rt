@@ -12,6 +12,7 @@ use rules::session::{Previous, Watch};
 use rules::units::Milliseconds;
 
 // Of a protection: that its span, if the mask has it, started by the last time.
+// Kept: the same test of a bit in `due`, `tracking` and `watch_soundness`: shared, it would be public with a `requires`, which none may have.
 fn started_by(running: u8, protection: usize, last: Milliseconds, start: Milliseconds) -> bool
     requires { protection < 8 }
     ensures { result ≡ not (bit_of running protection) || (start ≤ms last) }
@@ -31,6 +32,7 @@ fn current_kept(p: Previous) -> bool
     p.is_none_or(|(_, i)| LEAST_CURRENT <= i && i <= GREATEST_CURRENT)
 }
 
+// Kept: a loop: with `iter().enumerate().all(..)` its clause stayed open (tried: the check's own search, no proof by hand).
 fn spans_started(last: Milliseconds, w: Watch) -> bool
     ensures { result ≡ all (tabulate 8 (λ protection. started_by last (kept_at w protection).span)) }
 {

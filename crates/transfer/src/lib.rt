@@ -3,6 +3,7 @@
 
 ghost use Rattle.std.specs.Prelude.{◌≤◌, ◌<◌, length, IfOk, IfErr};
 ghost use Rattle.transfer.specs.Reason.{IsWithoutNumber};
+ghost use Rattle.transfer.specs.Retry.{Called};
 
 use std::io::{Cursor, ErrorKind, Read, Write};
 use std::{io, str};
@@ -14,15 +15,13 @@ pub struct Unwritten {
     pub error: io::Error,
 }
 
-// One read that a signal did not break off: how many bytes it put at the start of the buffer, 0 at the end of the input, or why it
-// failed.
-// Kept: a loop of its own beside that of `write_some`; one `retry` of both takes an `FnMut`, in whose contract a call's count is bounded by
-// nothing, since it ranges over every state of the closure, so that the clause of neither follows.
-pub fn read_some<R: Read>(input: &mut R, buffer: &mut [u8]) -> io::Result<usize>
-    ensures { IfOk result (λ n. n ≤ length buffer.old) }
+// Calls until a call is not broken off by a signal. What it counted is bounded by what no call changes.
+fn retry<F: FnMut() -> io::Result<usize>>(mut call: F) -> io::Result<usize>
+    requires { F.IsAlwaysCallable call }
+    ensures { Called F.step call result }
 {
     for _ in 0..u64::MAX {
-        match input.read(buffer) {
+        match call() {
             Err(error) if error.kind() == ErrorKind::Interrupted => (),
             answer => return answer,
         }
@@ -30,16 +29,18 @@ pub fn read_some<R: Read>(input: &mut R, buffer: &mut [u8]) -> io::Result<usize>
     Err(io::Error::from(ErrorKind::Interrupted))
 }
 
+// One read that a signal did not break off: how many bytes it put at the start of the buffer, 0 at the end of the input, or why it
+// failed.
+pub fn read_some<R: Read>(input: &mut R, buffer: &mut [u8]) -> io::Result<usize>
+    ensures { IfOk result (λ n. n ≤ length buffer.old) }
+{
+    retry(|| input.read(buffer))
+}
+
 fn write_some<W: Write>(output: &mut W, bytes: &[u8]) -> io::Result<usize>
     ensures { IfOk result (λ n. n ≤ length bytes.now) }
 {
-    for _ in 0..u64::MAX {
-        match output.write(bytes) {
-            Err(error) if error.kind() == ErrorKind::Interrupted => (),
-            answer => return answer,
-        }
-    }
-    Err(io::Error::from(ErrorKind::Interrupted))
+    retry(|| output.write(bytes))
 }
 
 // Writes the bytes. Where not all were written, the error says how many were, and why.

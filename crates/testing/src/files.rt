@@ -52,6 +52,7 @@ pub fn open<R: Env + Files, E: Write>(rt: &R, errors: &mut E, i: usize) -> Resul
 pub fn read_full<'a, I: Read>(input: &mut I, buffer: &'a mut [u8]) -> &'a [u8]
     ensures { length result.now ≤ length buffer.entry.now }
 {
+    // Kept: a count, since the answer is the buffer's first bytes, that many; a `&mut` slice that shrinks would need the count besides.
     let mut done = 0;
     while done < buffer.len() {
         match transfer::read_some(input, &mut buffer[done..]) {

@@ -62,6 +62,7 @@ pub fn beyond(protection: usize, start: u32) -> Record {
     })
 }
 
+// Kept: beside `beyond`, since one function for both would take a closure, and a `requires` for it, for the one line that differs.
 pub fn within(protection: usize, start: u32) -> Record {
     with(|r| {
         r.live.watch.within = weight(protection);
@@ -80,6 +81,7 @@ pub fn long(count: usize, place: usize, protection: u8) -> Record {
 }
 
 // The same of the short-term store; the entry in that place is a release.
+// Kept: beside `long`, since the two stores are two types, and only this one has releases.
 pub fn short(count: usize, place: usize, protection: u8) -> Record {
     with(|r| {
         if place < r.stores.short.protections.len() {

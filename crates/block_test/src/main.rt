@@ -97,6 +97,8 @@ fn take_steps<W: Write>(out: &mut W, steps: &[u8], start: Record) -> io::Result<
     Ok(r)
 }
 
+// Kept: beside the `run` of engine_test, which makes its record otherwise: one for both would take that as a closure, and bring the engine
+// into `testing`.
 fn run<W: Write>(out: &mut W, input: &[u8]) -> io::Result<()> {
     if let Some((battery, steps)) = input.split_first() {
         let r = take_steps(out, steps, engine::fresh(*battery).start)?;

@@ -26,6 +26,7 @@ fn after(events: &[u8], start: Record) -> Record {
     r
 }
 
+// Kept: beside the `run` of block_test, which has why.
 fn run<W: Write>(out: &mut W, log: &[u8]) -> io::Result<()> {
     if let Some((battery, events)) = log.split_first() {
         let r = after(events, engine::fresh(*battery).start);

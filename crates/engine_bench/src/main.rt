@@ -46,6 +46,7 @@ fn call(events: &[Event], first: Record) -> usize {
     let mut short = first.stores.short;
     let mut long = first.stores.long;
     let mut refused: usize = 0;
+    // Kept: an index, since `events.iter().cycle()` doesn't tell where it begins again, which is where the record does.
     let mut i = 0;
     for _ in 0..CALLS {
         if events.len() <= i {
@@ -108,6 +109,7 @@ fn read_and_call(input: &[u8], first: Record) -> usize {
 fn call_whole(events: &[Event], first: Record) -> usize {
     let mut held = first;
     let mut refused: usize = 0;
+    // Kept: an index, as in `call`.
     let mut i = 0;
     for _ in 0..CALLS {
         if events.len() <= i {

@@ -33,6 +33,7 @@ fn carry(digits: &mut [u8], size: usize) -> usize
 // Turns the digits of a number, that many, into those of the next; answers how many those are. Nothing is written where the buffer has no
 // room for one digit more.
 // Kept: no method of `Counter`, which has 21 bytes: `counts_up` says it of digits in any buffer and any size (docs/DECISIONS.md).
+// Kept: the size that was given where there is no room, no Option: it can't fail, and `size_after` of its clauses says so.
 pub fn increase(digits: &mut [u8], size: usize) -> usize
     ensures value { result ≡ size_after size digits.old }
     ensures digits_after { digits.new ≡ increased size digits.old }

@@ -75,6 +75,7 @@ fn without_number(text: &[u8]) -> &[u8]
 }
 
 // A line that says what failed and why. Where it can't be written, there is nowhere left to say so.
+// Kept: bytes for what failed, since a file's name need not be text.
 pub fn fail<E: Write>(errors: &mut E, what: &[u8], why: io::Error) {
     let mut text = Cursor::new([0u8; 256]);
     let _ = write!(text, "{why}");

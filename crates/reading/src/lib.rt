@@ -1,7 +1,7 @@
 // One measurement: which sensors failed, and whether it is plausible.
 #![tactic(auto)]
 
-ghost use Rattle.std.specs.Prelude.{cond, [], ◌∷◌, ◌≡◌, ◌≤◌};
+ghost use Rattle.std.specs.Prelude.{◌≡◌};
 ghost use Rattle.std.specs.Int.Count.{ones};
 ghost use Rattle.rules.specs.Test.{cell_in_range, current_in_range, temperature_in_range, plausible, mask_of, failed_mask};
 ghost use Rattle.reading.specs.Ranges.{extremes_in_range};
@@ -33,43 +33,37 @@ fn temperature_in_range(t: DeciCelsius) -> bool
     (LEAST_TEMPERATURE..=GREATEST_TEMPERATURE).contains(&t)
 }
 
-// The bit of a sensor, by its weight: set where its value is out of range.
-fn bit(ok: bool, weight: u16) -> u16
-    ensures is { result ≡ cond ok 0 weight }
-    ensures small { result ≤ weight }
+// The mask of the sensors that are not each in its range.
+fn mask(oks: [bool; 13]) -> u16
+    ensures { result ≡ mask_of oks }
 {
-    if ok { 0 } else { weight }
-}
-
-// The mask of four sensors of a kind, each in its range or not.
-fn mask(a: bool, b: bool, c: bool, d: bool) -> u16
-    ensures is { result ≡ mask_of (a ∷ b ∷ c ∷ d ∷ []) }
-    ensures small { result ≤ 15 }
-{
-    bit(a, 1) + bit(b, 2) + bit(c, 4) + bit(d, 8)
+    let mut mask = 0;
+    for (sensor, ok) in oks.iter().enumerate() {
+        if !*ok {
+            mask |= 1 << sensor;
+        }
+    }
+    mask
 }
 
 pub fn failed_mask(r: Reading) -> u16
     ensures { result ≡ failed_mask r }
 {
-    mask(
+    mask([
         cell_in_range(r.cell0),
         cell_in_range(r.cell1),
         cell_in_range(r.cell2),
         cell_in_range(r.cell3),
-    ) + mask(
         cell_in_range(r.cell4),
         cell_in_range(r.cell5),
         cell_in_range(r.cell6),
         cell_in_range(r.cell7),
-    ) * 16
-        + bit(current_in_range(r.current), 256)
-        + mask(
-            temperature_in_range(r.temperature0),
-            temperature_in_range(r.temperature1),
-            temperature_in_range(r.temperature2),
-            temperature_in_range(r.temperature3),
-        ) * 512
+        current_in_range(r.current),
+        temperature_in_range(r.temperature0),
+        temperature_in_range(r.temperature1),
+        temperature_in_range(r.temperature2),
+        temperature_in_range(r.temperature3),
+    ])
 }
 
 pub fn failed_count(mask: u16) -> u32

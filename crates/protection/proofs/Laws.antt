@@ -11,8 +11,8 @@ use lib.IntN.{ℤ, pos, negsuc, nat_abs, ◌+ℤ◌}
 use Rattle.std.proofs.Common.{is_lt, is_le, int_cmp}
 use Rattle.std.proofs.lemmas.Int.{ints}
 use lib.Signed.{mag, lt_z, le_z}
-use mir.Syntax.{w8, w32}
-use mir.Val.{Fits, SFits}
+use mir.Syntax.{w8}
+use mir.Val.{Fits}
 use mir.Facts.{Fits-le, Fits-lit}
 use Rattle.rules.specs.declared.units.DeciCelsius.{DeciCelsius}
 use Rattle.rules.specs.declared.units.Milliamperes.{Milliamperes}
@@ -75,9 +75,6 @@ sub_mag false k n = omega arith
 sum_mag : (z : ℤ) (k : ℕ) → mag (z +ℤ pos k) ≤ mag z + k
 sum_mag (pos n) k = omega arith
 sum_mag (negsuc n) k = sub_mag (ltb k (suc n)) k n
-
-pub sum_fits : (z : ℤ) → mag z ≤ 90_000 → SFits w32 (z +ℤ pos 2_000)
-sum_fits z h = record { sfits = omega (arith, sum_mag z 2_000) }
 
 -- ---- all eight, from the extremes and the limits
 

@@ -10,6 +10,7 @@ use rules::calls::Request;
 use rules::refusals::Refusal;
 use rules::states::State;
 
+// Kept: request and state as two parameters: a pair of them is matched on here and made for nothing else; so too in `state_request`.
 pub fn at_request(q: Request, s: State) -> Option<Refusal>
     ensures { number_of result ≡ first_of (request_checks s q) }
 {

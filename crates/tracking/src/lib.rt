@@ -50,6 +50,7 @@ fn since_all(begun: u8, t: Milliseconds, since: [Milliseconds; 8]) -> [Milliseco
 // By the masks of the protections that the measurement is beyond and within, if it is plausible, and its time. A span that does not go on
 // begins now. Only a beyond protection that is clear may trip, and only a within one that is tripped may be released: no other is asked
 // how long its span has lasted.
+// Kept: two masks as parameters, as `tracked_by` has them: `protection::Masks` stands in a crate that this one does without.
 pub fn track(beyond: u8, within: u8, t: Milliseconds, k: Kept) -> Kept
     ensures { result ≡ tracked_by beyond within t k }
 {

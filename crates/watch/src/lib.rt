@@ -16,6 +16,7 @@ use tracking::Kept;
 
 // What a measurement shows: whether it is plausible; the protections that it then is beyond and those that it is within, as masks with bit =
 // number; its failed sensors.
+// Kept: `plausible` beside masks that are 0 without it, no Result: a measurement that is not plausible is tracked too, and specs/Kept names the fields.
 #[derive(Clone, Copy)]
 pub struct Seen {
     pub plausible: bool,
@@ -30,6 +31,7 @@ fn previous_of(plausible: bool, t: Milliseconds, i: Milliamperes) -> Previous
     plausible.then_some((t, i))
 }
 
+// Kept: an `if` in one place: a `From<bool>` would not say what is true of it.
 fn test_of(plausible: bool) -> TestResult
     ensures { result ≡ cond plausible Passed TestFailed }
 {

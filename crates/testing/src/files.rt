@@ -34,6 +34,7 @@ fn open_path<R: Files>(rt: &R, path: &[u8]) -> io::Result<R::File> {
 
 // The file that argument i names, open for reading. Where there is none, standard error says why, and the answer is -1.
 // Kept: a number for that, which the must-fail edit no_file_answered_as_minus_2 and Opened of specs/Files speak of.
+// Kept: the runtime, the writer for errors and a number as parameters: a struct of the three would be made for each call.
 pub fn open<R: Env + Files, E: Write>(rt: &R, errors: &mut E, i: usize) -> Result<R::File, i32>
     ensures { Opened result }
 {

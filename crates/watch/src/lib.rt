@@ -25,6 +25,7 @@ pub struct Seen {
     pub mask: u16,
 }
 
+// Kept: a time and a current as two parameters, here and in `advance`: what is kept of both is the pair that this makes.
 fn previous_of(plausible: bool, t: Milliseconds, i: Milliamperes) -> Previous
     ensures { result ≡ previous_by plausible t i }
 {

@@ -1,5 +1,5 @@
-// The papers' limits that more than one place of the code tests, or that a type is built on: each once, in its unit. No proof can
-// name a constant, so a wrong one is refused where it is used. The headings are document 01's, but for the last.
+// The papers' limits that more than one place of the code tests, or that a type is built on: each once, in its unit. A wrong one is
+// refused where it is used, by the contract that states it in the papers' own figure. The headings are document 01's, but for the last.
 use crate::units::{DeciCelsius, Milliamperes, Milliseconds, Millivolts};
 
 // ---- "Quantities"

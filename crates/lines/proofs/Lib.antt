@@ -1,3 +1,4 @@
 pub mod Numbering
 pub mod Going
 pub mod Written
+pub mod Answers

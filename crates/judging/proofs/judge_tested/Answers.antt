@@ -18,4 +18,5 @@ returns-else-accepted-2 c =
       | then-accepted w ↦ absurd (cc (w.if-accepted.true, c.if-accepted-2.false))
       | else-accepted w ↦ w.after-is
     ] in
-    rw (after, c.if-accepted-2.false) (of_refused c.args.rest c.args.live c.args.event _ c.refusal_tested-refusal.ensures c.if-accepted-2.ensures)
+    let refused = of_refused c.args.rest c.args.live c.args.event _ c.refusal_tested-refusal.ensures c.if-accepted-2.ensures in
+    simp (after, c.if-accepted-2.false, refused)

@@ -2,11 +2,13 @@
 // events there are and how many calls are made, and for each of three repetitions the processor time in nanoseconds, in all and per call, and
 // the refusals: of calls on events that were read before and of reading and calls, both with each store kept apart and written only where a
 // call touches it; of calls that take a whole record, test all of its soundness and give a whole record back; and of blocks of 1,000 events.
+// A repetition that leaves other entries than the first is said.
 #![tactic(auto)]
 
 use rules::battery::Record;
 use rules::calls::Event;
 use rules::limits::BLOCK_EVENTS;
+use rules::stores::Stores;
 use rules::units::Milliseconds;
 use std::io::Write;
 use std::rt::CpuClock;
@@ -24,6 +26,19 @@ const BLOCKS: usize = 5;
 
 const ROUNDS: usize = 977;
 
+// Room for both exports of a record.
+const LONG_EXPORT: usize = 640;
+
+const EXPORTS: usize = 800;
+
+// What a run of calls comes to: how many were refused, and the record after the last. The record is used, or the compiler would leave out what
+// writes its stores.
+#[derive(Clone, Copy)]
+struct Ran {
+    refused: usize,
+    left: Record,
+}
+
 fn events(input: &[u8]) -> [Event; SLOTS] {
     let mut events = [Event::PowerOn(Milliseconds(0)); SLOTS];
     let mut at = 1;
@@ -37,10 +52,10 @@ fn events(input: &[u8]) -> [Event; SLOTS] {
     events
 }
 
-// How many calls were refused. After the last event the first one follows, on the first record.
+// After the last event the first one follows, on the first record.
 // Kept: a loop in each of the four that are timed, with the turn written out. As a method of a struct that holds the live part and the stores it
 // took 70 ns for 43 (tried).
-fn call(events: &[Event], first: Record) -> usize {
+fn call(events: &[Event], first: Record) -> Ran {
     let rest = judging::rest_sound(first.live, first.stores);
     let mut live = first.live;
     let mut short = first.stores.short;
@@ -56,7 +71,7 @@ fn call(events: &[Event], first: Record) -> usize {
             long = first.stores.long;
         }
         let Some(event) = events.get(i) else {
-            return refused;
+            break;
         };
         let e = *event;
         let judged = judging::judge_tested(rest, live, e);
@@ -71,11 +86,17 @@ fn call(events: &[Event], first: Record) -> usize {
         refused = refused.wrapping_add(usize::from(judged.refusal.is_some()));
         i += 1;
     }
-    refused
+    Ran {
+        refused,
+        left: Record {
+            live,
+            stores: Stores { short, long },
+        },
+    }
 }
 
 // The same, on events as they are read. Bytes that can't be read end the log as its end does.
-fn read_and_call(input: &[u8], first: Record) -> usize {
+fn read_and_call(input: &[u8], first: Record) -> Ran {
     let rest = judging::rest_sound(first.live, first.stores);
     let mut live = first.live;
     let mut short = first.stores.short;
@@ -102,11 +123,17 @@ fn read_and_call(input: &[u8], first: Record) -> usize {
         refused = refused.wrapping_add(usize::from(judged.refusal.is_some()));
         at = next;
     }
-    refused
+    Ran {
+        refused,
+        left: Record {
+            live,
+            stores: Stores { short, long },
+        },
+    }
 }
 
 // The first of these two, by the engine's call on a whole record.
-fn call_whole(events: &[Event], first: Record) -> usize {
+fn call_whole(events: &[Event], first: Record) -> Ran {
     let mut held = first;
     let mut refused: usize = 0;
     // Kept: an index, as in `call`.
@@ -117,7 +144,7 @@ fn call_whole(events: &[Event], first: Record) -> usize {
             held = first;
         }
         let Some(e) = events.get(i) else {
-            return refused;
+            break;
         };
         match engine::apply(held, *e) {
             Ok(after) => held = after,
@@ -125,7 +152,10 @@ fn call_whole(events: &[Event], first: Record) -> usize {
         }
         i += 1;
     }
-    refused
+    Ran {
+        refused,
+        left: held,
+    }
 }
 
 // Where each block ends. The first one starts behind the type byte.
@@ -141,7 +171,7 @@ fn ends(input: &[u8]) -> [usize; BLOCKS] {
 }
 
 // One round over the blocks.
-fn send_all(input: &[u8], ends: &[usize], first: Record, answers: &mut [u8]) -> usize {
+fn send_all(input: &[u8], ends: &[usize], first: Record, answers: &mut [u8]) -> Ran {
     let mut held = first;
     let mut refused: usize = 0;
     let mut start = 1;
@@ -152,18 +182,35 @@ fn send_all(input: &[u8], ends: &[usize], first: Record, answers: &mut [u8]) -> 
         }
         start = *end;
     }
-    refused
+    Ran {
+        refused,
+        left: held,
+    }
 }
 
 // How many blocks were refused; the log is sent again and again, as for reading and calls.
-fn send(input: &[u8], first: Record) -> usize {
+fn send(input: &[u8], first: Record) -> Ran {
     let ends = ends(input);
     let mut answers = [0; BLOCK_EVENTS];
     let mut refused: usize = 0;
+    let mut left = first;
     for _ in 0..ROUNDS {
-        refused = refused.wrapping_add(send_all(input, &ends, first, &mut answers));
+        let round = send_all(input, &ends, first, &mut answers);
+        refused = refused.wrapping_add(round.refused);
+        left = round.left;
     }
-    refused
+    Ran { refused, left }
+}
+
+// The bytes of a record's two exports added up.
+fn exported(r: Record) -> u64 {
+    let mut bytes = [0; EXPORTS];
+    let (long, short) = bytes.split_at_mut(LONG_EXPORT);
+    let _ = export::export_long(r, long);
+    let _ = export::export_short(r, short);
+    bytes
+        .iter()
+        .fold(0, |sum: u64, byte| sum.wrapping_add(u64::from(*byte)))
 }
 
 // The processor time that the program has taken, 0 where the clock fails.
@@ -171,44 +218,62 @@ fn clock<R: CpuClock>(rt: &R) -> Duration {
     rt.process_cpu_time().unwrap_or(Duration::ZERO)
 }
 
-// Runs what counts refusals, and prints how long it took.
-fn timed<R: CpuClock, W: Write, F: FnOnce() -> usize>(
+// Runs calls, prints how long they took, and answers what their record's exports add up to.
+fn timed<R: CpuClock, W: Write, F: FnOnce() -> Ran>(
     rt: &R,
     out: &mut W,
     name: &str,
     run: F,
-) -> io::Result<()>
+) -> io::Result<u64>
     requires { F.IsAlwaysCallable run }
 {
     let start = clock(rt);
-    let refused = run();
+    let ran = run();
     let us = clock(rt).saturating_sub(start).as_micros();
     if us < 1_000_000_000_000 {
         let ns = us as u64 * 1000;
         let each = ns / CALLS as u64;
+        let refused = ran.refused;
         writeln!(out, "{name} {ns} ns, per call {each}, refused {refused}")?;
     }
-    Ok(())
+    Ok(exported(ran.left))
 }
 
+// Times each of the four once.
+fn repeat<R: CpuClock, W: Write>(
+    rt: &R,
+    out: &mut W,
+    input: &[u8],
+    events: &[Event],
+    first: Record,
+) -> io::Result<[u64; 4]> {
+    Ok([
+        timed(rt, out, "calls", || call(events, first))?,
+        timed(rt, out, "reading and calls", || read_and_call(input, first))?,
+        timed(
+            rt,
+            out,
+            "calls on a whole record",
+            || call_whole(events, first),
+        )?,
+        timed(rt, out, "blocks of 1,000", || send(input, first))?,
+    ])
+}
+
+// Of a log without an event that can be read, a power on at 0 ms is called.
 fn run<R: CpuClock, W: Write>(rt: &R, out: &mut W, input: &[u8]) -> io::Result<()> {
     if let Some((battery, log)) = input.split_first() {
         let first = engine::fresh(*battery).start;
         let slots = events(input);
         let count = event_log::readable(log, SLOTS).count;
-        let events = &slots[..count.min(SLOTS)];
+        let events = &slots[..count.clamp(1, SLOTS)];
         writeln!(out, "events {count}")?;
         writeln!(out, "calls {CALLS}")?;
-        for _ in 0..3 {
-            timed(rt, out, "calls", || call(events, first))?;
-            timed(rt, out, "reading and calls", || read_and_call(input, first))?;
-            timed(
-                rt,
-                out,
-                "calls on a whole record",
-                || call_whole(events, first),
-            )?;
-            timed(rt, out, "blocks of 1,000", || send(input, first))?;
+        let left = repeat(rt, out, input, events, first)?;
+        for _ in 1..3 {
+            if repeat(rt, out, input, events, first)? != left {
+                writeln!(out, "other entries than before")?;
+            }
         }
     }
     Ok(())

@@ -51,12 +51,13 @@ fn open<'a, R: Env + Files, O: Write, E: Write>(
 fn main(rt: HostRuntime) -> io::Result<()> {
     let mut out = rt.stdout();
     let mut errors = rt.stderr();
+    let count = env::args(&rt)?.len();
     let mut buffer = [0; 65_536];
     for i in 1..3 {
         let log = open(&rt, &mut out, &mut errors, i, &mut buffer)?;
         steps::run(&mut out, log)?;
     }
-    for i in 1..env::args(&rt)?.len() {
+    for i in 1..count {
         let log = open(&rt, &mut out, &mut errors, i, &mut buffer)?;
         run(&mut out, log)?;
     }

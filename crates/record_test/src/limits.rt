@@ -1,11 +1,11 @@
 // Document 01, "Unsound": a record for each condition of the list, and one just inside each limit, by the table on standard input. A line
 // says whether the record is sound, what two calls answer (a power loss, which a sound record accepts, and a power on at 0 ms, which is
 // early), whether a refused call leaves the record as it was, and what both exports answer, with whether the buffer holds what it held
-// after the bytes written.
+// after the bytes written. A refusal comes without a record: the same event goes as a block of one, which gives the record after it.
 ghost use Rattle.std.specs.Prelude.{◌≡◌, ◌<◌, ◌^◌, eqb};
 ghost use Rattle.std.specs.List.{list_all};
 
-use crate::edit;
+use crate::{compare, edit};
 use rules::battery::Record;
 use rules::calls::Event;
 use rules::limits::{LONG_TERM_ENTRIES, SHORT_TERM_ENTRIES};
@@ -17,17 +17,23 @@ use testing::slice;
 use testing::table::Cases;
 
 // Of the byte that every buffer is filled with.
+// Kept: a loop over all of them and no `all`, which stops at the first other byte, so that it takes them one by one (docs/LOOK-BACK.md, d).
+#[tactic(auto, using(std::proofs::lemmas::List::Folds::list_all_more))]
 fn untouched(s: &[u8]) -> bool
     ensures { result ≡ list_all (λ byte. eqb byte 0xee) s.now }
 {
-    s.iter().all(|byte| *byte == 0xee)
+    let mut same = true;
+    for byte in s {
+        same &= *byte == 0xee;
+    }
+    same
 }
 
-fn kept(s: &[u8]) -> &'static str {
-    if untouched(s) { "kept" } else { "CHANGED" }
+fn kept(kept: bool) -> &'static str {
+    if kept { " kept" } else { " CHANGED" }
 }
 
-// What an export into a buffer of so many bytes answers, and whether the buffer holds what it held, behind those that were written.
+// What an export into a buffer of so many bytes answers, after its name, and whether the buffer holds what it held, behind those that were written.
 fn export_into<const N: usize, W: Write, F: FnOnce(&mut [u8]) -> Result<usize, Refusal>>(
     out: &mut W,
     name: &str,
@@ -40,16 +46,27 @@ fn export_into<const N: usize, W: Write, F: FnOnce(&mut [u8]) -> Result<usize, R
     match export(&mut buffer) {
         Ok(n) => {
             let behind = slice::part(&buffer, n, N);
-            write!(out, ", {name} {n} {}", kept(behind))
+            write!(out, "{name}{n}{}", kept(untouched(behind)))
         }
         Err(refusal) => {
             let number = u8::from(refusal);
-            write!(out, ", {name} refused {number} {}", kept(&buffer))
+            write!(out, "{name}refused {number}{}", kept(untouched(&buffer)))
         }
     }
 }
 
-// The answer of a call. A refused one gives no record, so that the one before it is kept.
+// Whether a block of one event is taken, answers this refusal for it, and leaves the record as it was.
+fn leaves(r: Record, e: Event, refusal: Refusal) -> bool {
+    let mut bytes = [0; 33];
+    let size = event_writer::write_event(e, &mut bytes).unwrap_or(0);
+    let mut answers = [0];
+    match block::apply_block(r, slice::part(&bytes, 0, size), &mut answers) {
+        Ok(sent) => answers[0] == u8::from(refusal) && compare::same(r, sent.after),
+        Err(_) => false,
+    }
+}
+
+// The answer of a call, and of a refused one whether it leaves the record, which is then the next call's.
 pub fn call<W: Write>(out: &mut W, name: &str, r: Record, e: Event) -> io::Result<Record> {
     match engine::apply(r, e) {
         Ok(after) => {
@@ -57,7 +74,8 @@ pub fn call<W: Write>(out: &mut W, name: &str, r: Record, e: Event) -> io::Resul
             Ok(after)
         }
         Err(refusal) => {
-            write!(out, "{name}{} kept", u8::from(refusal))?;
+            let kept = kept(leaves(r, e, refusal));
+            write!(out, "{name}{}{kept}", u8::from(refusal))?;
             Ok(r)
         }
     }
@@ -65,12 +83,16 @@ pub fn call<W: Write>(out: &mut W, name: &str, r: Record, e: Event) -> io::Resul
 
 // The rest of a line that begins with the record's name.
 fn judge<W: Write>(out: &mut W, r: Record) -> io::Result<()> {
-    let verdict = if engine::sound(r) { "sound" } else { "unsound" };
-    write!(out, ": {verdict}")?;
+    let verdict = if engine::sound(r) {
+        ": sound"
+    } else {
+        ": unsound"
+    };
+    out.write_all(verdict.as_bytes())?;
     call(out, ", power loss ", r, Event::PowerLoss(r.live.last))?;
     call(out, ", early power on ", r, Event::PowerOn(Milliseconds(0)))?;
-    export_into::<700, _, _>(out, "long", |buffer| export::export_long(r, buffer))?;
-    export_into::<200, _, _>(out, "short", |buffer| export::export_short(r, buffer))?;
+    export_into::<700, _, _>(out, ", long ", |buffer| export::export_long(r, buffer))?;
+    export_into::<200, _, _>(out, ", short ", |buffer| export::export_short(r, buffer))?;
     writeln!(out)
 }
 
@@ -101,10 +123,18 @@ fn buffers<W: Write>(out: &mut W) -> io::Result<()> {
     let long = edit::long(LONG_TERM_ENTRIES, 0, 0);
     let short = edit::short(SHORT_TERM_ENTRIES, 0, 0);
     write!(out, "buffers")?;
-    export_into::<640, _, _>(out, "long", |buffer| export::export_long(long, buffer))?;
-    export_into::<639, _, _>(out, "long", |buffer| export::export_long(long, buffer))?;
-    export_into::<156, _, _>(out, "short", |buffer| export::export_short(short, buffer))?;
-    export_into::<155, _, _>(out, "short", |buffer| export::export_short(short, buffer))?;
+    export_into::<640, _, _>(out, ", long ", |buffer| export::export_long(long, buffer))?;
+    export_into::<639, _, _>(out, ", long ", |buffer| export::export_long(long, buffer))?;
+    export_into::<156, _, _>(
+        out,
+        ", short ",
+        |buffer| export::export_short(short, buffer),
+    )?;
+    export_into::<155, _, _>(
+        out,
+        ", short ",
+        |buffer| export::export_short(short, buffer),
+    )?;
     writeln!(out)
 }
 

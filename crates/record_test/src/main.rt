@@ -3,6 +3,7 @@
 #![tactic(auto)]
 
 mod ceiling;
+mod compare;
 mod edit;
 mod limits;
 

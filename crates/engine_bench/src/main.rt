@@ -2,7 +2,7 @@
 // events there are and how many calls are made, and for each of three repetitions the processor time in nanoseconds, in all and per call, and
 // the refusals: of calls on events that were read before and of reading and calls, both with each store kept apart and written only where a
 // call touches it; of calls that take a whole record, test all of its soundness and give a whole record back; and of blocks of 1,000 events.
-// A repetition that leaves other entries than the first is said.
+// Where the entries that a repetition leaves don't add up to what those of the first did, that is said.
 #![tactic(auto)]
 
 use rules::battery::Record;
@@ -31,8 +31,8 @@ const LONG_EXPORT: usize = 640;
 
 const EXPORTS: usize = 800;
 
-// What a run of calls comes to: how many were refused, and the record after the last. The record is used, or the compiler would leave out what
-// writes its stores.
+// How many of a run's calls or blocks were refused, and the record whose entries are to be the same in each repetition. The two loops that keep
+// the stores apart give the one after their last call: the compiler would leave out what writes a store that nothing reads.
 #[derive(Clone, Copy)]
 struct Ran {
     refused: usize,
@@ -133,7 +133,7 @@ fn read_and_call(input: &[u8], first: Record) -> Ran {
 }
 
 // The first of these two, by the engine's call on a whole record.
-fn call_whole(events: &[Event], first: Record) -> Ran {
+fn call_whole(events: &[Event], first: Record) -> usize {
     let mut held = first;
     let mut refused: usize = 0;
     // Kept: an index, as in `call`.
@@ -144,7 +144,7 @@ fn call_whole(events: &[Event], first: Record) -> Ran {
             held = first;
         }
         let Some(e) = events.get(i) else {
-            break;
+            return refused;
         };
         match engine::apply(held, *e) {
             Ok(after) => held = after,
@@ -152,10 +152,7 @@ fn call_whole(events: &[Event], first: Record) -> Ran {
         }
         i += 1;
     }
-    Ran {
-        refused,
-        left: held,
-    }
+    refused
 }
 
 // Where each block ends. The first one starts behind the type byte.
@@ -171,7 +168,7 @@ fn ends(input: &[u8]) -> [usize; BLOCKS] {
 }
 
 // One round over the blocks.
-fn send_all(input: &[u8], ends: &[usize], first: Record, answers: &mut [u8]) -> Ran {
+fn send_all(input: &[u8], ends: &[usize], first: Record, answers: &mut [u8]) -> usize {
     let mut held = first;
     let mut refused: usize = 0;
     let mut start = 1;
@@ -182,24 +179,18 @@ fn send_all(input: &[u8], ends: &[usize], first: Record, answers: &mut [u8]) -> 
         }
         start = *end;
     }
-    Ran {
-        refused,
-        left: held,
-    }
+    refused
 }
 
 // How many blocks were refused; the log is sent again and again, as for reading and calls.
-fn send(input: &[u8], first: Record) -> Ran {
+fn send(input: &[u8], first: Record) -> usize {
     let ends = ends(input);
     let mut answers = [0; BLOCK_EVENTS];
     let mut refused: usize = 0;
-    let mut left = first;
     for _ in 0..ROUNDS {
-        let round = send_all(input, &ends, first, &mut answers);
-        refused = refused.wrapping_add(round.refused);
-        left = round.left;
+        refused = refused.wrapping_add(send_all(input, &ends, first, &mut answers));
     }
-    Ran { refused, left }
+    refused
 }
 
 // The bytes of a record's two exports added up.
@@ -254,9 +245,20 @@ fn repeat<R: CpuClock, W: Write>(
             rt,
             out,
             "calls on a whole record",
-            || call_whole(events, first),
+            || Ran {
+                refused: call_whole(events, first),
+                left: first,
+            },
         )?,
-        timed(rt, out, "blocks of 1,000", || send(input, first))?,
+        timed(
+            rt,
+            out,
+            "blocks of 1,000",
+            || Ran {
+                refused: send(input, first),
+                left: first,
+            },
+        )?,
     ])
 }
 
